@@ -2,7 +2,7 @@
 use mathlib.Core.Path.{_≡_, refl, sym, ap, subst, _∙_}
 use mathlib.Core.Bool.{Bool, true, false, cond}
 use mathlib.Core.Logic.{_⊎_, inl, inr, ⊎-elim}
-use mathlib.Core.List.{List, []}
+use mathlib.Core.List.{List, [], _∷_}
 use Prim.Native.Nat.{ℕ, zero, suc, _+_, _-_, _*_, _/_, _%_, _<_, _≤_}
 use native.Mathlib.Omega.{arith}
 use lib.Dec.{eqb}
@@ -14,7 +14,9 @@ use Rattle.std.proofs.shelf.Ways.{tells}
 use Rattle.trace.specs.declared.operation.Operation.{Operation}
 use Rattle.trace.specs.Operations.{isRead, isWrite, processorOf, positionOf}
 use Rattle.trace.specs.Traces.{Trace, processorCount, operationAt, laneAt, positioned, startingValue, Saw, Sourced, Complete}
+use Rattle.trace.specs.Calls.{firstFailed}
 use Rattle.trace.specs.Completeness.{againstWrite, sourceRefusal, readRefusal, refusalAt, firstRefusal, completenessAnswer, FirstUnfit}
+use Rattle.trace.proofs.Accepting.{unfailed}
 use Rattle.trace.proofs.Lanes.{lane-past, positioned-nowhere}
 
 -- a run of numbers, scanned for its first refusal
@@ -73,18 +75,15 @@ none-past t i h = none-at t i (lane-past t (processorOf i) (omega arith))
 none-and-some : {o : Operation} → None ≡ Some o → ⊥
 none-and-some e = let z : _≡_ {A = ℕ} 0 1 = cc in omega arith
 
-passed : (a b d : Bool) → _≡_ {A = ℕ} (cond a (cond b (cond d 0 11) 10) 9) 0 → (a ≡ true) × (b ≡ true) × (d ≡ true)
-passed true true true e = (refl, refl, refl)
-passed true true false e = absurd (omega (arith, e))
-passed true false d e = absurd (omega (arith, e))
-passed false b d e = absurd (omega (arith, e))
+passed : (a b d : Bool) → firstFailed ((a, 9) ∷ (b, 10) ∷ (d, 11) ∷ []) ≡ 0 → (a ≡ true) × ((b ≡ true) × ((d ≡ true) × Unit {0}))
+passed a b d e = unfailed ((a, 9) ∷ (b, 10) ∷ (d, 11) ∷ []) (λ z. omega arith, (λ z. omega arith, (λ z. omega arith, tt))) e
 
 module _ (t : Trace) (r : Operation) where
   saw : (o : Option Operation) → operationAt t (r .source) ≡ o → againstWrite r o ≡ 0 → (w : Operation) × Saw t r w
   saw None e z = absurd (omega (arith, z))
   saw (Some w) e z =
       let p = passed (isWrite w) (eqb (w .variable) (r .variable)) (eqb (w .value) (r .value)) z in
-      (w, record { there = e; write = p .0; variable = eqb-true _ _ (p .1); value = eqb-true _ _ (p .2) })
+      (w, record { there = e; write = p .0; variable = eqb-true _ _ (p .1 .0); value = eqb-true _ _ (p .1 .1 .0) })
 
   started : (b : Bool) → _≡_ {A = ℕ} (cond b 0 11) 0 → b ≡ true
   started true e = refl

@@ -1,0 +1,3 @@
+//! The trace file: a trace as bytes, read and written.
+pub mod faults;
+pub mod reader;
