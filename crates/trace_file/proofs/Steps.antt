@@ -39,7 +39,7 @@ placed-err p (Err g) f e = (g, refl, cc)
 one-less : (r m : ℕ) → r < m → m - r ≡ suc (m - (r + 1))
 one-less r m h = omega arith
 
-good-long : (t : Trace) (s : ℕ) (bytes : List ℕ) → recordFault t s bytes ≡ 0 → 8 ≤ length bytes
+pub good-long : (t : Trace) (s : ℕ) (bytes : List ℕ) → recordFault t s bytes ≡ 0 → 8 ≤ length bytes
 good-long t s bytes z =
     ⊎-elim (λ h. let f : recordFault t s bytes ≡ 15 = cond-true _ _ _ (lt-ltb (length bytes) 8 h) in absurd (omega arith)) (λ h. h) (cases-lt (length bytes) 8)
 

@@ -1,4 +1,5 @@
 pub mod Faults
 pub mod Files
 pub mod Reading
+pub mod FirstFaults
 pub mod Outcomes

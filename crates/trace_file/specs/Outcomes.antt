@@ -6,6 +6,9 @@ use lib.ListN.{length, getD, drop}
 use denote.Ref.{RefT}
 use Rattle.std.specs.declared.result.Result.{Result}
 use Rattle.std.specs.declared.result.Result.the-variants.{Ok, Err}
+use Rattle.std.specs.Orderings.{Decides}
+use Rattle.std.specs.Results.{isOk}
+use Rattle.std.specs.Vec.{made, refused}
 use Rattle.trace.specs.declared.table.Table.{Table}
 use Rattle.trace.specs.Tables.{traceOf}
 use Rattle.trace.specs.Operations.{number}
@@ -15,8 +18,10 @@ use Rattle.trace_file.specs.declared.faults.RecordFault.{RecordFault}
 use Rattle.trace_file.specs.declared.faults.SectionFault.{SectionFault}
 use Rattle.trace_file.specs.declared.faults.FileFault.{FileFault}
 use Rattle.trace_file.specs.declared.faults.FileFault.the-variants.{Short}
+use Rattle.trace_file.specs.Files.{fileOf, IsFile}
+use Rattle.trace_file.specs.FirstFaults.{FirstFault}
 use Rattle.trace_file.specs.Faults.{recordNumber, sectionNumber, sectionPlace, fileNumber, filePlace}
-use Rattle.trace_file.specs.Reading.{Reading, good, faulty, Progress, going, stopped, recordFault, entered, readSection}
+use Rattle.trace_file.specs.Reading.{Reading, good, faulty, Progress, going, stopped, recordFault, entered, readSection, readFile}
 
 -- a fault with its position, what is good as it is
 abbrev pub placed : {T F : Type 0} → ℕ → Result T F → Result T (At F)
@@ -43,12 +48,11 @@ abbrev pub SectionRead : Trace → ℕ → List ℕ → Result ℕ SectionFault 
 SectionRead t s bytes (Ok n) u = SectionEntered t s bytes n u
 SectionRead t s bytes (Err f) u = readSection t s bytes ≡ stopped (sectionNumber f) (number s (sectionPlace f))
 
--- the two bytes that stand first are there, as are only bytes, or there are too few
+-- the two bytes that stand first, or too few bytes for them
 pub record SizeThere (bytes : List ℕ) (size : ℕ × ℕ) : Type 0 where
   pub within : 2 ≤ length bytes
   pub processors : size .0 ≡ getD bytes 0 0
   pub variables : size .1 ≡ getD bytes 1 0
-  pub bytes-are : (k : ℕ) → getD bytes k 0 < 256
 
 pub record SizeMissing (bytes : List ℕ) (f : FileFault) : Type 0 where
   pub short : length bytes < 2
@@ -62,3 +66,14 @@ SizeRead bytes (Err f) = SizeMissing bytes f
 abbrev pub readingOf : Result Table FileFault → Reading
 readingOf (Ok t) = good (traceOf t)
 readingOf (Err f) = faulty (fileNumber f) (filePlace f)
+
+-- what the reader of a whole file promises
+pub record FileRead (bytes : List ℕ) (r : Result Table FileFault) : Type 0 where
+  -- the answer is the reading of the bytes
+  pub answer : readingOf r ≡ readFile bytes
+  -- a table comes exactly when the bytes are the file of a well-formed trace
+  pub exactly : Decides (isOk r) (IsFile bytes)
+  -- the file of the table's trace is these bytes again
+  pub same : made r (λ t. fileOf (traceOf t) ≡ bytes)
+  -- a fault is the first
+  pub fault : refused r (λ f. FirstFault bytes (fileNumber f) (filePlace f))

@@ -5,6 +5,7 @@ use mathlib.Core.List.{List, [], _∷_}
 use Prim.Native.Nat.{ℕ, zero, suc, _+_, _*_}
 use lib.Dec.{ltb, eqb}
 use lib.ListN.{length, getD, drop}
+use Rattle.trace.specs.declared.operation.Operation.{Operation}
 use Rattle.trace.specs.Operations.{number, within}
 use Rattle.trace.specs.Traces.{Trace, emptyTrace}
 use Rattle.trace.specs.Calls.{operation, appended, recordRefusal, sizeRefusal}
@@ -36,9 +37,12 @@ valueField bytes = getD bytes 4 0 * 16777216 + getD bytes 5 0 * 65536 + getD byt
 abbrev pub recordFault : Trace → ℕ → List ℕ → ℕ
 recordFault t s bytes = cond (ltb (length bytes) 8) 15 (recordRefusal t s (kindField bytes) (variableField bytes) (sourceField bytes))
 
--- the trace with that record entered
+-- the operation that the record tells of, and the trace with that entered
+abbrev pub recordOf : List ℕ → Operation
+recordOf bytes = operation (kindField bytes) (variableField bytes) (sourceField bytes) (valueField bytes)
+
 abbrev pub entered : Trace → ℕ → List ℕ → Trace
-entered t s bytes = appended t s (operation (kindField bytes) (variableField bytes) (sourceField bytes) (valueField bytes))
+entered t s bytes = appended t s (recordOf bytes)
 
 -- the next n records of section s, r of which are read
 abbrev pub readRecords : Trace → ℕ → ℕ → ℕ → List ℕ → Progress

@@ -6,8 +6,7 @@ ghost use Rattle.std.specs.Results.{Cases};
 ghost use Rattle.trace.specs.Operations.{Within};
 ghost use Rattle.trace.specs.Tables.{traceOf};
 ghost use Rattle.trace.specs.Traces.{processorCount};
-ghost use Rattle.trace_file.specs.Outcomes.{RecordRead, SectionRead, SizeRead, placed, readingOf};
-ghost use Rattle.trace_file.specs.Reading.{readFile};
+ghost use Rattle.trace_file.specs.Outcomes.{RecordRead, SectionRead, SizeRead, FileRead, placed};
 use crate::faults::At;
 use crate::faults::FileFault;
 use crate::faults::FileFromSection;
@@ -83,7 +82,7 @@ fn read_size(bytes: &[u8]) -> Result<(u8, u8), FileFault>
 
 /// Reads a file: the table of its trace, or its first fault.
 pub fn read(bytes: &[u8]) -> Result<Table, FileFault>
-    ensures answer { λ r. ⌜ readingOf r ≡ readFile (now (bytes .entry)) ⌝ }
+    ensures { λ r. ⌜ FileRead (now (bytes .entry)) r ⌝ }
 {
     let (processors, variables) = read_size(bytes)?;
     let mut table = Table::new();

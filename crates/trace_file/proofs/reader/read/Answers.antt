@@ -1,18 +1,30 @@
 use mathlib.Core.Path.{_≡_, refl, sym, ap, subst, _∙_}
 use Prim.Native.Nat.{_+_}
+use borrow.Author.Needs.{needs}
 use native.Mathlib.Omega.{arith}
 use lib.ListN.{length}
-use Rattle.std.specs.declared.result.Result.the-variants.{Err}
+use Rattle.std.specs.declared.result.Result.the-variants.{Ok, Err}
 use Rattle.std.specs.shelf.Lists.{between}
 use Rattle.std.proofs.shelf.Lists.{take-rest}
 use Rattle.std.proofs.shelf.Results.{err-from-errBy}
 use Rattle.trace.specs.Tables.{traceOf}
-use Rattle.trace_file.specs.declared.faults.FileFault.the-variants.{Section}
-use Rattle.trace_file.specs.Reading.{readSection}
+use Rattle.trace_file.specs.declared.faults.FileFault.the-variants.{Size, Section, LeftOver}
+use Rattle.trace_file.specs.Reading.{readSection, readFile}
 use Rattle.trace_file.specs.Outcomes.{SectionRead, SectionEntered, readingOf}
 use Rattle.trace_file.proofs.Entering.{size-accepted}
+use Rattle.trace_file.proofs.Telling.{file-read}
 use Rattle.trace_file.proofs.Steps.{placed-ok, placed-err, file-starts, section-again, section-faulty, file-over, file-ends}
 use Rattle.trace_file.proofs.reader.read.Needs as need
+
+pub returns-in-Break-processors : need.returns-in-Break-processors
+returns-in-Break-processors c =
+    let e : readingOf (c .from-residual .result) ≡ readFile (c .args .bytes .now) = search needs in
+    file-read (c .args .bytes .now) _ (λ k. c .typed .bytes k .fits) e
+
+pub returns-in-rest : need.returns-in-rest
+returns-in-rest c =
+    let e : readingOf (Err Size) ≡ readFile (c .args .bytes .now) = search needs in
+    file-read (c .args .bytes .now) (Err Size) (λ k. c .typed .bytes k .fits) e
 
 pub loop-before-holds : need.loop-before-holds
 loop-before-holds c =
@@ -32,11 +44,9 @@ returns-in-Break-start c =
     let p = err-from-errBy (c .from-residual-in-Break-start .result) (c .from-residual-in-Break-start .ensures .1) in
     let q = placed-err s (c .read-section .result) (c .in-Break-start .field-0 .0) (c .in-Break-start .ensures tt) in
     let e = subst (λ r. SectionRead t s (between (c .loop-before .start) (length b) b) r (traceOf (c .read-section .last .table))) (q .1) (c .read-section .ensures) in
-    record {
-      answer =
-          ap readingOf (p .1 ∙ ap Err (p .2 ∙ ap Section (q .2)))
-          ∙ sym (section-faulty b _ t _ _ (c .loop-before .inv) (q .0) (c .loop-before-test .taken) (ap (readSection t s) (sym (take-rest b (c .loop-before .start))) ∙ e));
-    }
+    file-read b _ (λ k. c .typed .bytes k .fits)
+    (ap readingOf (p .1 ∙ ap Err (p .2 ∙ ap Section (q .2)))
+      ∙ sym (section-faulty b _ t _ _ (c .loop-before .inv) (q .0) (c .loop-before-test .taken) (ap (readSection t s) (sym (take-rest b (c .loop-before .start))) ∙ e)))
 
 pub loop-before-again : need.loop-before-again
 loop-before-again c =
@@ -50,7 +60,7 @@ loop-before-again c =
     (subst (λ tail. SectionEntered t s tail (c .in-Continue-start .field-0) u) (take-rest b (c .loop-before .start)) e)
 
 pub returns-then-start-bytes : need.returns-then-start-bytes
-returns-then-start-bytes c = record { answer = sym (file-over _ _ _ _ _ (c .loop-before .inv) (omega arith) (c .if-start-bytes .taken)) }
+returns-then-start-bytes c = file-read _ (Err LeftOver) (λ k. c .typed .bytes k .fits) (sym (file-over _ _ _ _ _ (c .loop-before .inv) (omega arith) (c .if-start-bytes .taken)))
 
 pub returns : need.returns
-returns c = record { answer = sym (file-ends _ _ _ _ _ (c .loop-before .inv) (omega arith) (c .if-start-bytes .left)) }
+returns c = file-read _ (Ok (c .loop-before .table)) (λ k. c .typed .bytes k .fits) (sym (file-ends _ _ _ _ _ (c .loop-before .inv) (omega arith) (c .if-start-bytes .left)))
