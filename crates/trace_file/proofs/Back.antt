@@ -42,7 +42,7 @@ module _ (p v : ℕ) (wp : Within 1 8 p) (whole : List (List Operation)) (empty 
     fits =
         decides-fitting p v o .0
         (subst (λ x. fitting p v x ≡ true) (getD-at lane o ops o (length lane) refl)
-          (all-getD (λ x. fitting p v x ≡ true) (lane ++ o ∷ ops) (length lane) o (omega (arith, length-append lane (o ∷ ops))) (lane-fits p v (lane ++ o ∷ ops) .0 (begun-fits v whole (lane ++ o ∷ ops) empty p g))))
+        (all-getD (λ x. fitting p v x ≡ true) (lane ++ o ∷ ops) (length lane) o (omega (arith, length-append lane (o ∷ ops))) (lane-fits p v (lane ++ o ∷ ops) .0 (begun-fits v whole (lane ++ o ∷ ops) empty p g))))
 
     counted : length (whole ++ lane ∷ replicate empty []) ≡ p
     counted =

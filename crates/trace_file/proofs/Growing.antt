@@ -82,7 +82,7 @@ module _ (v : ℕ) (whole : List (List Operation)) (lane : List Operation) (empt
             arith,
             sumBy-set length (whole ++ lane ∷ replicate empty []) (length whole) (lane ++ o ∷ []) [] inside,
             ap length (getD-at whole lane (replicate empty []) [] (length whole) refl),
-            length-push lane o
+            length-push lane o,
           );
         })
 

@@ -5,3 +5,4 @@ pub mod Growing
 pub mod Sound
 pub mod Back
 pub mod Telling
+pub mod Lengths

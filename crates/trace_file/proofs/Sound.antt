@@ -117,8 +117,8 @@ module _ (p v : ℕ) (whole : List (List Operation)) (empty : ℕ) where
           bad = ap (λ l. recordFault (told v whole l empty) (length whole + 1) bytes) (append-nil lane);
           real = ne;
           says =
-            cond-false _ _ _ (ne-eqb _ 0 ne)
-            ∙ ap (λ l. stopped (recordFault (told v whole lane empty) (length whole + 1) bytes) (number (length whole + 1) (length l + 1))) (sym (append-nil lane));
+              cond-false _ _ _ (ne-eqb _ 0 ne)
+              ∙ ap (λ l. stopped (recordFault (told v whole lane empty) (length whole + 1) bytes) (number (length whole + 1) (length l + 1))) (sym (append-nil lane));
         }
 
   records : (n : ℕ) (lane : List Operation) (bytes : List ℕ) → Good p v (whole ++ lane ∷ replicate empty []) → Bytes bytes → AllRead lane n bytes (readRecords (told v whole lane empty) (length whole + 1) (length lane) n bytes) ⊎ SomeRead lane n bytes (readRecords (told v whole lane empty) (length whole + 1) (length lane) n bytes)
@@ -139,10 +139,9 @@ module _ (p v : ℕ) (wp : Within 1 8 p) (wv : Within 1 16 v) (file : List ℕ) 
   -- all sections are read: nothing may follow
   ended : (whole : List (List Operation)) (bytes : List ℕ) (s : ℕ) → Good p v (whole ++ []) → file ≡ p ∷ v ∷ (joined sectionBytes whole ++ bytes) → Says file (readSections (record { variables = v; lanes = whole ++ [] }) s 0 bytes)
   ended whole [] s g e =
-      let h = subst (Good p v) (append-nil whole) g in
-      (
+      let h = subst (Good p v) (append-nil whole) g in (
         good-formed p v (whole ++ []) wp wv g,
-        (λ i. g .count i ∷ v ∷ joined sectionBytes (append-nil whole i)) ∙ (λ i. p ∷ v ∷ sym (append-nil (joined sectionBytes whole)) i) ∙ sym e
+        (λ i. g .count i ∷ v ∷ joined sectionBytes (append-nil whole i)) ∙ (λ i. p ∷ v ∷ sym (append-nil (joined sectionBytes whole)) i) ∙ sym e,
       )
   ended whole (b ∷ bytes) s g e =
       let h = subst (Good p v) (append-nil whole) g in
@@ -156,21 +155,21 @@ module _ (p v : ℕ) (wp : Within 1 8 p) (wv : Within 1 16 v) (file : List ℕ) 
   sections (suc n) whole (k ∷ bytes) count g small e =
       ⊎-elim
       (λ (a : AllRead p v whole n [] k bytes (readRecords (told v whole [] n) (length whole + 1) 0 k bytes)).
-        let next = whole ++ a .more ∷ [] in
-        let joins : next ++ replicate n [] ≡ whole ++ a .more ∷ replicate n [] = append-assoc whole (a .more ∷ []) (replicate n []) in
-        let form : file ≡ p ∷ v ∷ (joined sectionBytes next ++ a .rest) =
-          e
-          ∙ (λ i. p ∷ v ∷ (joined sectionBytes whole ++ sym (a .count) i ∷ a .form i))
-          ∙ (λ i. p ∷ v ∷ sym (append-assoc (joined sectionBytes whole) (sectionBytes (a .more)) (a .rest)) i)
-          ∙ (λ i. p ∷ v ∷ (joined-more sectionBytes [] whole (a .more) i ++ a .rest)) in
-        subst (λ q. Says file (andThen q (λ u rest. readSections u (length whole + 1) n rest))) (sym (a .says))
-        (subst (λ ls. Says file (readSections (record { variables = v; lanes = ls }) (length whole + 1) n (a .rest))) joins
-          (subst (λ s. Says file (readSections (record { variables = v; lanes = next ++ replicate n [] }) s n (a .rest))) (length-push whole (a .more))
-            (sections n next (a .rest) (omega (arith, length-push whole (a .more))) (subst (Good p v) (sym joins) (a .fine)) (a .small) form))))
+      let next = whole ++ a .more ∷ [] in
+      let joins : next ++ replicate n [] ≡ whole ++ a .more ∷ replicate n [] = append-assoc whole (a .more ∷ []) (replicate n []) in
+      let form : file ≡ p ∷ v ∷ (joined sectionBytes next ++ a .rest) =
+      e
+      ∙ (λ i. p ∷ v ∷ (joined sectionBytes whole ++ sym (a .count) i ∷ a .form i))
+      ∙ (λ i. p ∷ v ∷ sym (append-assoc (joined sectionBytes whole) (sectionBytes (a .more)) (a .rest)) i)
+      ∙ (λ i. p ∷ v ∷ (joined-more sectionBytes [] whole (a .more) i ++ a .rest)) in
+      subst (λ q. Says file (andThen q (λ u rest. readSections u (length whole + 1) n rest))) (sym (a .says))
+      (subst (λ ls. Says file (readSections (record { variables = v; lanes = ls }) (length whole + 1) n (a .rest))) joins
+      (subst (λ s. Says file (readSections (record { variables = v; lanes = next ++ replicate n [] }) s n (a .rest))) (length-push whole (a .more))
+      (sections n next (a .rest) (omega (arith, length-push whole (a .more))) (subst (Good p v) (sym joins) (a .fine)) (a .small) form))))
       (λ (b : SomeRead p v whole n [] k bytes (readRecords (told v whole [] n) (length whole + 1) 0 k bytes)).
-        subst (λ q. Says file (andThen q (λ u rest. readSections u (length whole + 1) n rest))) (sym (b .says))
-        (badRecord p v whole n k (b .more) (b .rest) (b .fault) (omega arith) (good-formed p v (whole ++ b .more ∷ replicate n []) wp wv (b .fine)) (b .count)
-          (e ∙ (λ i. p ∷ v ∷ (joined sectionBytes whole ++ k ∷ b .form i))) (b .bad) (b .real)))
+      subst (λ q. Says file (andThen q (λ u rest. readSections u (length whole + 1) n rest))) (sym (b .says))
+      (badRecord p v whole n k (b .more) (b .rest) (b .fault) (omega arith) (good-formed p v (whole ++ b .more ∷ replicate n []) wp wv (b .fine)) (b .count)
+      (e ∙ (λ i. p ∷ v ∷ (joined sectionBytes whole ++ k ∷ b .form i))) (b .bad) (b .real)))
       (records p v whole n k [] bytes g (drop-bytes 1 (k ∷ bytes) small))
 
 nothing-good : (p v : ℕ) → Good p v (replicate p [])
@@ -185,7 +184,7 @@ says (p ∷ v ∷ rest) small =
     let d = decides-and (within 1 8 p) (within 1 16 v) (decides-within 1 8 p) (decides-within 1 16 v) in
     ⊎-elim
     (λ w. subst (Says (p ∷ v ∷ rest)) (sym (cond-false _ _ _ (le-ltb (length (p ∷ v ∷ rest)) 2 long) ∙ cond-true _ _ _ w))
-      (sections p v (d .0 w .0) (d .0 w .1) (p ∷ v ∷ rest) p [] rest (omega arith) (nothing-good p v) (drop-bytes 2 (p ∷ v ∷ rest) small) refl))
+    (sections p v (d .0 w .0) (d .0 w .1) (p ∷ v ∷ rest) p [] rest (omega arith) (nothing-good p v) (drop-bytes 2 (p ∷ v ∷ rest) small) refl))
     (λ w. subst (Says (p ∷ v ∷ rest)) (sym (cond-false _ _ _ (le-ltb (length (p ∷ v ∷ rest)) 2 long) ∙ cond-false _ _ _ w))
-      (badSize p v rest refl (not-from-decides (within 1 8 p && within 1 16 v) d w)))
+    (badSize p v rest refl (not-from-decides (within 1 8 p && within 1 16 v) d w)))
     (cases-bool (within 1 8 p && within 1 16 v))

@@ -23,12 +23,12 @@ pub data FirstFault (bytes : List ℕ) : ℕ → ℕ → Type 0 where
   badSize : (p v : ℕ) (rest : List ℕ) → bytes ≡ p ∷ v ∷ rest → (Within 1 8 p × Within 1 16 v → ⊥) → FirstFault bytes 7 0
   -- whole sections, and then no count for the next
   noCount : (p v : ℕ) (whole : List (List Operation)) (empty : ℕ) → length whole + 1 + empty ≡ p → WellFormed (told v whole [] empty)
-    → bytes ≡ p ∷ v ∷ joined sectionBytes whole → FirstFault bytes 15 (number (length whole + 1) 0)
+      → bytes ≡ p ∷ v ∷ joined sectionBytes whole → FirstFault bytes 15 (number (length whole + 1) 0)
   -- whole sections, a count, some of its records, and then a record that has a fault
   badRecord : (p v : ℕ) (whole : List (List Operation)) (empty : ℕ) (count : ℕ) (lane : List Operation) (rest : List ℕ) (n : ℕ)
-    → length whole + 1 + empty ≡ p → WellFormed (told v whole lane empty) → length lane < count
-    → bytes ≡ p ∷ v ∷ (joined sectionBytes whole ++ count ∷ (joined recordBytes lane ++ rest))
-    → recordFault (told v whole lane empty) (length whole + 1) rest ≡ n → (n ≡ 0 → ⊥)
-    → FirstFault bytes n (number (length whole + 1) (length lane + 1))
+      → length whole + 1 + empty ≡ p → WellFormed (told v whole lane empty) → length lane < count
+      → bytes ≡ p ∷ v ∷ (joined sectionBytes whole ++ count ∷ (joined recordBytes lane ++ rest))
+      → recordFault (told v whole lane empty) (length whole + 1) rest ≡ n → (n ≡ 0 → ⊥)
+      → FirstFault bytes n (number (length whole + 1) (length lane + 1))
   -- a whole file, and then more
   leftOver : (t : Trace) (b : ℕ) (rest : List ℕ) → WellFormed t → bytes ≡ fileOf t ++ b ∷ rest → FirstFault bytes 16 0

@@ -2,4 +2,5 @@ pub mod Faults
 pub mod Files
 pub mod Reading
 pub mod FirstFaults
+pub mod Writing
 pub mod Outcomes

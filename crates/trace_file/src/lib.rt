@@ -1,3 +1,4 @@
 //! The trace file: a trace as bytes, read and written.
 pub mod faults;
 pub mod reader;
+pub mod writer;

@@ -46,7 +46,7 @@ returns-in-Break-start c =
     let e = subst (λ r. SectionRead t s (between (c .loop-before .start) (length b) b) r (traceOf (c .read-section .last .table))) (q .1) (c .read-section .ensures) in
     file-read b _ (λ k. c .typed .bytes k .fits)
     (ap readingOf (p .1 ∙ ap Err (p .2 ∙ ap Section (q .2)))
-      ∙ sym (section-faulty b _ t _ _ (c .loop-before .inv) (q .0) (c .loop-before-test .taken) (ap (readSection t s) (sym (take-rest b (c .loop-before .start))) ∙ e)))
+    ∙ sym (section-faulty b _ t _ _ (c .loop-before .inv) (q .0) (c .loop-before-test .taken) (ap (readSection t s) (sym (take-rest b (c .loop-before .start))) ∙ e)))
 
 pub loop-before-again : need.loop-before-again
 loop-before-again c =
