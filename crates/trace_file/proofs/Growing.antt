@@ -95,10 +95,18 @@ pub record Accepted (t : Trace) (k v s : ℕ) : Type 0 where
   pub room : operationCount t < capacity
 
 module _ (t : Trace) (p k v s : ℕ) where
+  passed : recordRefusal t p k v s ≡ 0 → (within 1 (processorCount t) p ≡ true) × ((isSome (kindOf k) ≡ true) × ((within 1 (t .variables) v ≡ true) × ((sourceFits (processorCount t) k s ≡ true) × ((ltb (operationCount t) capacity ≡ true) × Unit {0}))))
+  passed z =
+      unfailed ((within 1 (processorCount t) p, 1) ∷ (isSome (kindOf k), 2) ∷ (within 1 (t .variables) v, 3) ∷ (sourceFits (processorCount t) k s, 4) ∷ (ltb (operationCount t) capacity, 5) ∷ [])
+      (λ n. omega arith, (λ n. omega arith, (λ n. omega arith, (λ n. omega arith, (λ n. omega arith, tt))))) z
+
+  pub tests-processor : recordRefusal t p k v s ≡ 0 → Within 1 (processorCount t) p
+  tests-processor z = decides-within 1 (processorCount t) p .0 (passed z .0)
+
   pub tests-passed : recordRefusal t p k v s ≡ 0 → Accepted t k v s
   tests-passed z =
-      let w = unfailed ((within 1 (processorCount t) p, 1) ∷ (isSome (kindOf k), 2) ∷ (within 1 (t .variables) v, 3) ∷ (sourceFits (processorCount t) k s, 4) ∷ (ltb (operationCount t) capacity, 5) ∷ []) (λ n. omega arith, (λ n. omega arith, (λ n. omega arith, (λ n. omega arith, (λ n. omega arith, tt))))) z in
-      record { kind = w .1 .0; variable = w .1 .1 .0; source = w .1 .1 .1 .0; room = ltb-true (operationCount t) capacity (w .1 .1 .1 .1 .0) }
+      let w = passed z .1 in
+      record { kind = w .0; variable = w .1 .0; source = w .1 .1 .0; room = ltb-true (operationCount t) capacity (w .1 .1 .1 .0) }
 
   pub tests-pass : Within 1 (processorCount t) p → Accepted t k v s → recordRefusal t p k v s ≡ 0
   tests-pass w a =

@@ -6,3 +6,4 @@ pub mod Sound
 pub mod Back
 pub mod Telling
 pub mod Lengths
+pub mod Enough

@@ -2,7 +2,7 @@
 use mathlib.Core.Path.{_≡_}
 use mathlib.Core.List.{List}
 use Prim.Native.Nat.{ℕ, _<_, _≤_}
-use lib.ListN.{length, getD, drop}
+use lib.ListN.{length, getD, take, drop}
 use denote.Ref.{RefT}
 use Rattle.std.specs.declared.result.Result.{Result}
 use Rattle.std.specs.declared.result.Result.the-variants.{Ok, Err}
@@ -77,3 +77,5 @@ pub record FileRead (bytes : List ℕ) (r : Result Table FileFault) : Type 0 whe
   pub same : made r (λ t. fileOf (traceOf t) ≡ bytes)
   -- a fault is the first
   pub fault : refused r (λ f. FirstFault bytes (fileNumber f) (filePlace f))
+  -- no byte past the 530th matters
+  pub enough : readFile (take 530 bytes) ≡ readFile bytes

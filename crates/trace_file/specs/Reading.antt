@@ -7,7 +7,7 @@ use lib.Dec.{ltb, eqb}
 use lib.ListN.{length, getD, drop}
 use Rattle.trace.specs.declared.operation.Operation.{Operation}
 use Rattle.trace.specs.Operations.{number, within}
-use Rattle.trace.specs.Traces.{Trace, emptyTrace}
+use Rattle.trace.specs.Traces.{Trace, operationCount, emptyTrace}
 use Rattle.trace.specs.Calls.{operation, appended, recordRefusal, sizeRefusal}
 
 -- what came of reading: a trace, or the number and the place of the first fault
@@ -75,3 +75,13 @@ readFile bytes =
     (cond (within 1 8 (getD bytes 0 0) && within 1 16 (getD bytes 1 0))
     (readSections (emptyTrace (getD bytes 0 0) (getD bytes 1 0)) 0 (getD bytes 0 0) (drop 2 bytes))
     (faulty 7 0))
+
+-- load: how many operations a good file has, or its fault with the place
+abbrev pub loadAnswer : Reading → ℕ × ℕ
+loadAnswer (good t) = (0, operationCount t)
+loadAnswer (faulty n place) = (n, place)
+
+-- a good file's trace replaces the one that was there
+abbrev pub loadAfter : Trace → Reading → Trace
+loadAfter t (good u) = u
+loadAfter t (faulty n place) = t

@@ -7,6 +7,7 @@ ghost use Rattle.trace.specs.Operations.{Within};
 ghost use Rattle.trace.specs.Tables.{traceOf};
 ghost use Rattle.trace.specs.Traces.{processorCount};
 ghost use Rattle.trace_file.specs.Outcomes.{RecordRead, SectionRead, SizeRead, FileRead, placed};
+ghost use Rattle.trace_file.specs.Reading.{readFile, loadAnswer, loadAfter};
 use crate::faults::At;
 use crate::faults::FileFault;
 use crate::faults::FileFromSection;
@@ -99,4 +100,18 @@ pub fn read(bytes: &[u8]) -> Result<Table, FileFault>
         return Err(FileFault::LeftOver);
     }
     Ok(table)
+}
+
+/// Replaces a table by a file's, and answers how many operations that has; a faulty file leaves the table as it is.
+pub fn load(table: &mut Table, bytes: &[u8]) -> (u8, u16)
+    ensures answer { λ r. ⌜ r ≡ loadAnswer (readFile (now (bytes .entry))) ⌝ }
+    ensures after { λ _. ⌜ traceOf (now (table .exit)) ≡ loadAfter (traceOf (now (table .entry))) (readFile (now (bytes .entry))) ⌝ }
+{
+    match read(bytes) {
+        Ok(loaded) => {
+            *table = loaded;
+            (0, table.total() as u16)
+        }
+        Err(fault) => (fault.number(), fault.place()),
+    }
 }

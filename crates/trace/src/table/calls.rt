@@ -3,7 +3,8 @@ ghost use mathlib.Core.Path.{_≡_};
 ghost use mathlib.Core.Bool.{true};
 ghost use Prim.Native.Nat.{_+_, _<_, _≤_};
 ghost use lib.ListN.{length};
-ghost use Rattle.trace.specs.Operations.{Within, kindNumber, isPosition, sourceFits, fitting};
+ghost use Rattle.std.specs.Orderings.{When};
+ghost use Rattle.trace.specs.Operations.{Within, within, kindNumber, isPosition, sourceFits, fitting};
 ghost use Rattle.trace.specs.Lanes.{laneOf};
 ghost use Rattle.trace.specs.Tables.{traceOf};
 ghost use Rattle.trace.specs.Traces.{processorCount, operationCount, laneAt, laneFits, emptyTrace};
@@ -47,6 +48,14 @@ impl Table {
         }
         *self = Table::empty(processors, variables);
         (0, 0)
+    }
+
+    // Whether there is such a processor.
+    pub(crate) fn has_processor(&self, processor: usize) -> bool
+        ensures value { λ r. ⌜ r ≡ within 1 (processorCount (traceOf (now (self .entry)))) processor ⌝ }
+        ensures bounds { λ r. ⌜ When r (Within 1 (now (self .entry) .processors) processor) (Within 1 (now (self .entry) .processors) processor → ⊥) ⌝ }
+    {
+        processor >= 1 && processor <= self.processors as usize
     }
 
     // Whether the number names a position of one of the processors, recorded or not.

@@ -1,7 +1,5 @@
 //! What a table holds.
 ghost use mathlib.Core.Path.{_≡_};
-ghost use Rattle.std.specs.Orderings.{When};
-ghost use Rattle.trace.specs.Operations.{Within, within};
 ghost use Rattle.trace.specs.Tables.{traceOf};
 ghost use Rattle.trace.specs.Traces.{processorCount, operationCount, startingValue, laneAt, operationAt, WellFormed};
 use crate::operation::Operation;
@@ -28,13 +26,6 @@ impl Table {
         ensures formed { λ _. ⌜ WellFormed (traceOf (now (self .entry))) ⌝ }
     {
         self.total
-    }
-
-    pub(crate) fn has_processor(&self, processor: usize) -> bool
-        ensures value { λ r. ⌜ r ≡ within 1 (processorCount (traceOf (now (self .entry)))) processor ⌝ }
-        ensures bounds { λ r. ⌜ When r (Within 1 (now (self .entry) .processors) processor) (Within 1 (now (self .entry) .processors) processor → ⊥) ⌝ }
-    {
-        processor >= 1 && processor <= self.processors as usize
     }
 
     /// Gives the operations of a processor, first to last; none where there is no such processor.
