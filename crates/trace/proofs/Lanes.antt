@@ -2,7 +2,8 @@
 use mathlib.Core.Path.{_≡_, refl, sym, ap, _∙_}
 use mathlib.Core.Bool.{true, false}
 use mathlib.Core.List.{List, [], _∷_, _++_, map}
-use Prim.Native.Nat.{ℕ, zero, suc, _+_, _-_, _<_, _≤_}
+use mathlib.Core.Logic.{⊎-elim}
+use Prim.Native.Nat.{ℕ, zero, suc, _+_, _-_, _*_, _<_, _≤_}
 use native.Mathlib.Omega.{arith}
 use lib.ListN.{length, getD, set, take, replicate}
 use lib.Seq.{take-set-lt}
@@ -13,11 +14,12 @@ use Rattle.std.specs.shelf.Maps.{nth}
 use Rattle.std.proofs.shelf.Lists.{length-map, length-take-le, getD-map, getD-take, getD-past, map-set, take-replicate}
 use Rattle.std.proofs.shelf.Maps.{nth-getD, nth-past}
 use Rattle.std.proofs.shelf.Sums.{sumBy-set, sumBy-cons, getD-le-sumBy}
+use Rattle.std.proofs.shelf.Tests.{cases-eq}
 use Rattle.std.proofs.shelf.Ways.{tells}
-use Rattle.trace.specs.Operations.{Within, within}
+use Rattle.trace.specs.Operations.{Within, within, processorOf, positionOf}
 use Rattle.trace.specs.Lanes.{laneOf, traceFrom}
 use Rattle.trace.specs.Tables.{traceOf}
-use Rattle.trace.specs.Traces.{Trace, processorCount, operationCount, laneAt, positioned, emptyTrace, laneFits}
+use Rattle.trace.specs.Traces.{Trace, processorCount, operationCount, laneAt, positioned, operationAt, emptyTrace, laneFits}
 use Rattle.trace.specs.declared.lane.Lane.{Lane}
 use Rattle.trace.specs.declared.operation.Operation.{Operation}
 use Rattle.trace.specs.declared.table.Table.{Table}
@@ -49,6 +51,21 @@ lane-at t (suc p) low = let e : suc p - 1 ≡ p = omega arith in ap (λ n. getD 
 pub lane-past : (t : Trace) (p : ℕ) → processorCount t < p → laneAt t p ≡ []
 lane-past t zero h = refl
 lane-past t (suc p) h = getD-past (t .lanes) p [] (omega arith)
+
+-- no operation has a number below the first of processor 1, or past those of the last processor
+
+nowhere : (t : Trace) (i : ℕ) → laneAt t (processorOf i) ≡ [] → operationAt t i ≡ None
+nowhere t i e = ap (λ l. positioned l (positionOf i)) e ∙ positioned-nowhere (positionOf i)
+
+pub nowhere-below : (t : Trace) (i : ℕ) → i < 101 → operationAt t i ≡ None
+nowhere-below t i h =
+    ⊎-elim
+    (λ e. ap (operationAt t) e)
+    (λ ne. let z : processorOf i ≡ 0 = omega arith in nowhere t i (ap (laneAt t) z))
+    (cases-eq i 100)
+
+pub nowhere-past : (t : Trace) (i : ℕ) → 101 + 100 * processorCount t ≤ i → operationAt t i ≡ None
+nowhere-past t i h = nowhere t i (lane-past t (processorOf i) (omega arith))
 
 -- one lane of the code's
 

@@ -3,7 +3,7 @@ use mathlib.Core.Path.{_≡_, refl, sym, ap, subst, _∙_}
 use mathlib.Core.Bool.{Bool, true, false, cond}
 use mathlib.Core.Logic.{_⊎_, inl, inr, ⊎-elim}
 use mathlib.Core.List.{List, [], _∷_}
-use Prim.Native.Nat.{ℕ, zero, suc, _+_, _-_, _*_, _/_, _%_, _<_, _≤_}
+use Prim.Native.Nat.{ℕ, zero, suc, _+_, _-_, _*_, _<_, _≤_}
 use native.Mathlib.Omega.{arith}
 use lib.Dec.{eqb}
 use Rattle.std.specs.declared.option.Option.{Option}
@@ -12,12 +12,12 @@ use Rattle.std.specs.Orderings.{Decides}
 use Rattle.std.proofs.shelf.Tests.{eqb-true, eq-eqb, cases-eq, cases-lt, cases-bool, cond-true, cond-false, ne-eqb}
 use Rattle.std.proofs.shelf.Ways.{tells}
 use Rattle.trace.specs.declared.operation.Operation.{Operation}
-use Rattle.trace.specs.Operations.{isRead, isWrite, processorOf, positionOf}
-use Rattle.trace.specs.Traces.{Trace, processorCount, operationAt, laneAt, positioned, startingValue, Saw, Sourced, Complete}
+use Rattle.trace.specs.Operations.{isRead, isWrite}
+use Rattle.trace.specs.Traces.{Trace, processorCount, operationAt, startingValue, Saw, Sourced, Complete}
 use Rattle.trace.specs.Calls.{firstFailed}
 use Rattle.trace.specs.Completeness.{againstWrite, sourceRefusal, readRefusal, refusalAt, firstRefusal, completenessAnswer, FirstUnfit}
 use Rattle.trace.proofs.Accepting.{unfailed}
-use Rattle.trace.proofs.Lanes.{lane-past, positioned-nowhere}
+use Rattle.trace.proofs.Lanes.{nowhere-below, nowhere-past}
 
 -- a run of numbers, scanned for its first refusal
 pub data Scanned (t : Trace) (low high : ℕ) : ℕ × ℕ → Type 0 where
@@ -55,20 +55,11 @@ module _ (t : Trace) (i end : ℕ) where
   pub first-end : end ≤ i → firstRefusal t i (end - i) ≡ (0, 0)
   first-end h = let z : end - i ≡ 0 = omega arith in ap (firstRefusal t i) z
 
--- no operation has a number below the first of processor 1, or past those of the last processor
-
-none-at : (t : Trace) (i : ℕ) → laneAt t (processorOf i) ≡ [] → refusalAt t i ≡ 0
-none-at t i e = ap (λ l. readRefusal t (positioned l (positionOf i))) e ∙ ap (readRefusal t) (positioned-nowhere (positionOf i))
-
 none-below : (t : Trace) (i : ℕ) → i < 101 → refusalAt t i ≡ 0
-none-below t i h =
-    ⊎-elim
-    (λ e. ap (refusalAt t) e)
-    (λ ne. let z : processorOf i ≡ 0 = omega arith in none-at t i (ap (laneAt t) z))
-    (cases-eq i 100)
+none-below t i h = ap (readRefusal t) (nowhere-below t i h)
 
 none-past : (t : Trace) (i : ℕ) → 101 + 100 * processorCount t ≤ i → refusalAt t i ≡ 0
-none-past t i h = none-at t i (lane-past t (processorOf i) (omega arith))
+none-past t i h = ap (readRefusal t) (nowhere-past t i h)
 
 -- a read without a refusal is sourced, and the other way
 

@@ -1,0 +1,4 @@
+pub mod Filling
+pub mod Closing
+pub mod Passing
+pub mod Layering
