@@ -1,4 +1,9 @@
 //! Memory models: the four questions that each answers of a trace, three base models, and two layers.
-pub mod bases;
-pub mod layers;
+pub mod agreement;
+mod closure;
+pub mod coherent;
 pub mod model;
+pub mod pram;
+mod program_order;
+pub mod sequential;
+pub mod write_into;
