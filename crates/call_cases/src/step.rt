@@ -45,7 +45,9 @@ fn same(before: &Table, after: &Table) -> bool {
             return false;
         }
     }
-    before.processors() == after.processors() && before.variables() == after.variables()
+    before.processors() == after.processors()
+        && before.variables() == after.variables()
+        && before.total() == after.total()
 }
 
 fn look(rt: &LibcRuntime, table: &Table) -> io::Result<()> {
@@ -67,7 +69,7 @@ fn look_at(rt: &LibcRuntime, table: &Table, number: u16) -> io::Result<()> {
 fn tell(rt: &LibcRuntime, answer: (u8, u16), before: &Table, after: &Table) -> io::Result<()> {
     match answer {
         (0, value) => println!(rt, "0 {value}"),
-        (refusal, value) if same(before, after) => { println!(rt, "{refusal} {value}, unchanged") }
+        (refusal, value) if same(before, after) => println!(rt, "{refusal} {value}, unchanged"),
         (refusal, value) => println!(rt, "{refusal} {value}, changed"),
     }
 }
