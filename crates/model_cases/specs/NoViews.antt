@@ -1,6 +1,7 @@
 -- The model without views, and that it keeps the laws.
-use Prim.Native.Nat.{ℕ, zero-le}
 use native.Mathlib.Omega.{arith}
+use mathlib.Core.Bool.{false}
+use Rattle.std.proofs.shelf.Tests.{false≢true}
 use Rattle.models.specs.Meaning.{Meaning, Laws}
 
 -- nothing is held, and nothing required
@@ -11,6 +12,7 @@ pub no-views-laws : Laws noViews
 no-views-laws =
     record {
       few = λ p v wp wv. omega arith;
+      told = λ t k i. (false, (λ e. absurd (false≢true e), λ h. absurd h));
       held = λ t k i h. absurd h;
       ordered = λ t i j h. absurd h;
       agreed = λ t i j h. absurd h;

@@ -101,7 +101,8 @@ fn deep(rt: &LibcRuntime, table: &Table) -> io::Result<()> {
             },
         },
         table,
-    )
+    )?;
+    tell(rt, "F over no views", &WriteInto { below: NoViews }, table)
 }
 
 fn main(rt: LibcRuntime) -> io::Result<()> {

@@ -70,6 +70,7 @@ pub write-into-laws : (m : Meaning) → Laws m → Laws (writeInto m)
 write-into-laws m l =
     record {
       few = l .few;
+      told = l .told;
       held = l .held;
       ordered = λ t i j c. chain-there m l t c;
       agreed = l .agreed;
@@ -114,6 +115,7 @@ pub agreement-laws : (m : Meaning) → Laws m → Laws (agreement m)
 agreement-laws m l =
     record {
       few = l .few;
+      told = l .told;
       held = l .held;
       ordered = l .ordered;
       agreed = λ t i j a. ⊎-elim (l .agreed t i j) (λ s. ((s .first, s .first-is, s .first-writes), (s .second, s .second-is, s .second-writes))) a;

@@ -1,8 +1,9 @@
 -- What a memory model means, and the laws that every model owes. Rests on traces.
 use mathlib.Core.Path.{_≡_}
-use mathlib.Core.Bool.{true}
+use mathlib.Core.Bool.{Bool, true}
 use Prim.Native.Nat.{ℕ, _≤_}
 use Rattle.std.specs.declared.option.Option.the-variants.{Some}
+use Rattle.std.specs.Orderings.{Decides}
 use Rattle.trace.specs.declared.operation.Operation.{Operation}
 use Rattle.trace.specs.Operations.{isRead, isWrite, Within}
 use Rattle.trace.specs.Traces.{Trace, processorCount, operationAt, There, Complete, Prefix}
@@ -40,6 +41,8 @@ pub record Grows (m : Meaning) (t u : Trace) : Type 0 where
 pub record Laws (m : Meaning) : Type 0 where
   -- there are at most 16 views, for sizes that a trace can have
   pub few : (p v : ℕ) → Within 1 8 p → Within 1 16 v → m .views p v ≤ 16
+  -- whether a view holds an operation can be told
+  pub told : (t : Trace) (k i : ℕ) → (b : Bool) × Decides b (m .holds t k i)
   -- only views that there are hold, and only operations that are there are held
   pub held : (t : Trace) (k i : ℕ) → m .holds t k i → View m t k × There t i
   -- only operations that are there are required before

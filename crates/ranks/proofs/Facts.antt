@@ -1,9 +1,9 @@
 -- The list of numbers has every operation's number once, rising.
 use mathlib.Core.Path.{_≡_, refl, sym, ap, subst, _∙_}
-use mathlib.Core.Bool.{Bool, true, false, cond}
-use mathlib.Core.Logic.{_⊎_, inl, inr, ⊎-elim}
-use mathlib.Core.List.{List, [], _∷_, _++_}
-use Prim.Native.Nat.{ℕ, zero, suc, _+_, _-_, _*_, _/_, _%_, _<_, _≤_}
+use mathlib.Core.Bool.{false}
+use mathlib.Core.Logic.{_⊎_, ⊎-elim}
+use mathlib.Core.List.{List, [], _∷_}
+use Prim.Native.Nat.{ℕ, zero, suc, _+_, _-_, _*_, _<_, _≤_}
 use native.Mathlib.Nat.{zero-add}
 use native.Mathlib.Omega.{arith}
 use lib.ListN.{length, getD, drop}
@@ -19,7 +19,7 @@ use Rattle.trace.specs.declared.operation.Operation.{Operation}
 use Rattle.trace.specs.Operations.{processorOf, positionOf}
 use Rattle.trace.specs.Traces.{Trace, processorCount, operationCount, operationAt, laneAt, positioned, There}
 use Rattle.trace.proofs.Lanes.{lane-at, nowhere-below, nowhere-past, positioned-in, positioned-out}
-use Rattle.ranks.specs.Numbers.{numbersFrom, numbers, numberAt, Numbers}
+use Rattle.ranks.specs.Numbers.{numbersFrom, numbers, Numbers}
 
 unused : Operation
 unused = record { kind = Read; variable = 0; source = 0; value = 0 }

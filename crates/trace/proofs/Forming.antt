@@ -1,23 +1,23 @@
 -- Every table holds a well-formed trace: the tests that it keeps true are the relation.
 use mathlib.Core.Path.{_≡_, refl, sym, ap, subst, _∙_}
-use mathlib.Core.Bool.{Bool, true, false, _&&_, _||_}
+use mathlib.Core.Bool.{true, false}
 use mathlib.Core.Logic.{_⊎_, inl, inr, ⊎-elim}
 use mathlib.Core.List.{List}
-use Prim.Native.Nat.{ℕ, _+_, _*_, _/_, _%_, _^_, _<_, _≤_}
+use Prim.Native.Nat.{ℕ, _/_, _%_, _^_}
 use native.Mathlib.Omega.{arith}
-use lib.Dec.{leb, ltb, eqb}
+use lib.Dec.{leb, eqb}
 use Rattle.std.specs.Orderings.{Decides}
 use Rattle.std.specs.shelf.Lists.{All}
 use Rattle.std.proofs.shelf.Elements.{all-weaker}
 use Rattle.std.proofs.shelf.Tests.{eqb-true, eq-eqb, ltb-true, lt-ltb, leb-true, le-leb, and-parts, and-from, or-cases, or-left, or-right, false≢true}
-use Rattle.std.proofs.shelf.Ways.{tells, decides-and}
+use Rattle.std.proofs.shelf.Ways.{decides-and}
 use Rattle.trace.specs.declared.operation.Kind.{Kind}
 use Rattle.trace.specs.declared.operation.Kind.the-variants.{Read, Write}
 use Rattle.trace.specs.declared.operation.Operation.{Operation}
 use Rattle.trace.specs.declared.table.Table.{Table}
-use Rattle.trace.specs.Operations.{kindNumber, isRead, isWrite, number, capacity, Within, within, Nameable, isPosition, sourceFits, Fitting, fitting}
+use Rattle.trace.specs.Operations.{kindNumber, number, capacity, Within, within, Nameable, isPosition, sourceFits, Fitting, fitting}
 use Rattle.trace.specs.Tables.{traceOf}
-use Rattle.trace.specs.Traces.{Trace, processorCount, WellFormed, laneFits, lanesFit}
+use Rattle.trace.specs.Traces.{WellFormed, laneFits, lanesFit}
 use Rattle.trace.proofs.Fits.{lane-fits, lanes-fit}
 use Rattle.trace.proofs.Lanes.{processors-are}
 

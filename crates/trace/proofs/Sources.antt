@@ -2,7 +2,7 @@
 use mathlib.Core.Path.{_≡_, refl, sym, ap, subst, _∙_}
 use mathlib.Core.Bool.{Bool, true, false, cond}
 use mathlib.Core.Logic.{_⊎_, inl, inr, ⊎-elim}
-use mathlib.Core.List.{List, [], _∷_}
+use mathlib.Core.List.{[], _∷_}
 use Prim.Native.Nat.{ℕ, zero, suc, _+_, _-_, _*_, _<_, _≤_}
 use native.Mathlib.Omega.{arith}
 use lib.Dec.{eqb}
@@ -10,10 +10,9 @@ use Rattle.std.specs.declared.option.Option.{Option}
 use Rattle.std.specs.declared.option.Option.the-variants.{Some, None}
 use Rattle.std.specs.Orderings.{Decides}
 use Rattle.std.proofs.shelf.Tests.{eqb-true, eq-eqb, cases-eq, cases-lt, cases-bool, cond-true, cond-false, ne-eqb}
-use Rattle.std.proofs.shelf.Ways.{tells}
 use Rattle.trace.specs.declared.operation.Operation.{Operation}
 use Rattle.trace.specs.Operations.{isRead, isWrite}
-use Rattle.trace.specs.Traces.{Trace, processorCount, operationAt, startingValue, Saw, Sourced, Complete}
+use Rattle.trace.specs.Traces.{Trace, processorCount, operationAt, Saw, Sourced, Complete}
 use Rattle.trace.specs.Calls.{firstFailed}
 use Rattle.trace.specs.Completeness.{againstWrite, sourceRefusal, readRefusal, refusalAt, firstRefusal, completenessAnswer, FirstUnfit}
 use Rattle.trace.proofs.Accepting.{unfailed}

@@ -1,7 +1,7 @@
 -- Operations: their kinds, their numbers, and what each field may be.
 -- Rests on the code's two plain types, Kind and Operation.
 use mathlib.Core.Path.{_≡_}
-use mathlib.Core.Bool.{Bool, true, false, cond, _&&_, _||_}
+use mathlib.Core.Bool.{Bool, true, cond, _&&_, _||_}
 use mathlib.Core.Logic.{_⊎_}
 use Prim.Native.Nat.{ℕ, _+_, _*_, _/_, _%_, _^_, _<_, _≤_}
 use lib.Dec.{leb, ltb, eqb}

@@ -1,10 +1,10 @@
 -- A trace as a plain value: how many variables there are, and a lane of operations for each processor.
 -- Rests on operations alone; no type of the code's table is named here.
 use mathlib.Core.Path.{_≡_}
-use mathlib.Core.Bool.{Bool, true, false, _&&_}
+use mathlib.Core.Bool.{Bool, true, _&&_}
 use mathlib.Core.Logic.{_⊎_}
 use mathlib.Core.List.{List, [], _∷_, _++_}
-use Prim.Native.Nat.{ℕ, zero, suc, _+_, _-_, _*_, _/_, _%_, _<_, _≤_}
+use Prim.Native.Nat.{ℕ, zero, suc, _+_, _<_, _≤_}
 use lib.ListN.{length, getD, replicate}
 use Rattle.std.specs.declared.option.Option.{Option}
 use Rattle.std.specs.declared.option.Option.the-variants.{Some, None}
@@ -12,7 +12,7 @@ use Rattle.std.specs.Options.{isSome}
 use Rattle.std.specs.shelf.Lists.{sumBy, All}
 use Rattle.std.specs.shelf.Maps.{nth}
 use Rattle.trace.specs.declared.operation.Operation.{Operation}
-use Rattle.trace.specs.Operations.{isRead, isWrite, number, processorOf, positionOf, capacity, Within, Fitting, fitting}
+use Rattle.trace.specs.Operations.{isRead, isWrite, processorOf, positionOf, capacity, Within, Fitting, fitting}
 
 -- a trace: its variables are 1 to `variables`, its processors 1 to the number of lanes, and a lane lists what its processor did
 pub record Trace : Type 0 where

@@ -1,12 +1,12 @@
 -- The file of a well-formed trace is read, and gives that trace.
 use mathlib.Core.Path.{_≡_, refl, sym, ap, subst, _∙_}
-use mathlib.Core.Bool.{Bool, true, false, _&&_}
+use mathlib.Core.Bool.{true, _&&_}
 use mathlib.Core.List.{List, [], _∷_, _++_}
-use mathlib.Core.Logic.{_⊎_, inl, inr, ⊎-elim}
-use Prim.Native.Nat.{ℕ, zero, suc, _+_, _-_, _^_, _<_, _≤_}
+use mathlib.Core.Logic.{_⊎_, ⊎-elim}
+use Prim.Native.Nat.{ℕ, suc, _+_, _-_, _^_, _<_, _≤_}
 use native.Mathlib.Omega.{arith}
 use lib.Dec.{eqb, ltb}
-use lib.ListN.{length, getD, take, drop, replicate}
+use lib.ListN.{length, replicate}
 use Rattle.std.specs.Options.{isSome}
 use Rattle.std.specs.shelf.Lists.{sumBy, joined, All}
 use Rattle.std.proofs.shelf.Elements.{all-getD, all-append, all-take}
@@ -16,8 +16,8 @@ use Rattle.std.proofs.shelf.Tests.{and-parts, and-from, cond-true, cond-false, 
 use Rattle.trace.specs.declared.operation.Kind.{Kind}
 use Rattle.trace.specs.declared.operation.Kind.the-variants.{Read, Write}
 use Rattle.trace.specs.declared.operation.Operation.{Operation}
-use Rattle.trace.specs.Operations.{kindNumber, kindOf, Nameable, Within, within, sourceFits, capacity, Fitting, fitting}
-use Rattle.trace.specs.Traces.{Trace, processorCount, WellFormed, laneFits, lanesFit}
+use Rattle.trace.specs.Operations.{kindNumber, Nameable, Within, within, sourceFits, capacity, Fitting, fitting}
+use Rattle.trace.specs.Traces.{Trace, processorCount, WellFormed, laneFits}
 use Rattle.trace.proofs.Fits.{lane-fits, lanes-fit, fits-none}
 use Rattle.trace.proofs.Forming.{decides-fitting, decides-within}
 use Rattle.trace.proofs.Lanes.{empty-count}
@@ -27,7 +27,7 @@ use Rattle.trace_file.specs.Reading.{good, going, recordFault, entered, record
 use Rattle.trace_file.specs.FirstFaults.{told}
 use Rattle.trace_file.proofs.Entering.{long-fault}
 use Rattle.trace_file.proofs.Forms.{source-form, operation-form}
-use Rattle.trace_file.proofs.Growing.{Good, formed-good, begun-fits, told-more, Accepted, tests-pass}
+use Rattle.trace_file.proofs.Growing.{Good, formed-good, begun-fits, told-more, tests-pass}
 
 source-small : (p : ℕ) (k : Kind) (s : ℕ) → p ≤ 8 → (eqb (kindNumber k) 1 ≡ true → Nameable p s) → (eqb (kindNumber k) 2 ≡ true → s ≡ 0) → s < 65536
 source-small p Read s h r w = ⊎-elim (λ z. omega arith) (λ n. omega (arith, n .2, n .3, n .4)) (r refl)

@@ -1,13 +1,12 @@
 -- No byte past the 530th matters: a file that is right ends before, and any other has its first fault before.
 use mathlib.Core.Path.{_≡_, refl, sym, ap, subst, _∙_}
-use mathlib.Core.Bool.{Bool, true, cond, _&&_}
+use mathlib.Core.Bool.{cond, _&&_}
 use mathlib.Core.List.{List, [], _∷_, _++_}
-use mathlib.Core.Logic.{_⊎_, inl, inr, ⊎-elim}
+use mathlib.Core.Logic.{_⊎_, ⊎-elim}
 use Prim.Native.Nat.{ℕ, zero, suc, _+_, _-_, _*_, _<_, _≤_}
 use native.Mathlib.Omega.{arith}
 use lib.Dec.{ltb, leb}
 use lib.ListN.{length, getD, take, drop}
-use Rattle.std.specs.shelf.Lists.{sumBy}
 use Rattle.std.proofs.shelf.Lists.{length-take, length-push, getD-take, drop-take}
 use Rattle.std.proofs.shelf.Sums.{sumBy-set}
 use Rattle.std.proofs.shelf.Tests.{cases-eq, cases-lt, cases-bool, cond-true, cond-false, eq-eqb, ne-eqb, lt-ltb, le-ltb, leb-true, and-parts}
@@ -16,7 +15,7 @@ use Rattle.trace.specs.Operations.{number, Within, within, capacity}
 use Rattle.trace.specs.Traces.{Trace, processorCount, operationCount, laneAt, emptyTrace}
 use Rattle.trace.specs.Calls.{operation, appended, recordRefusal}
 use Rattle.trace.proofs.Lanes.{lane-at, empty-count}
-use Rattle.trace_file.specs.Reading.{Reading, Progress, going, stopped, recordFault, recordOf, entered, readRecords, readSection, readSections, readFile, andThen, kindField, variableField, sourceField, valueField}
+use Rattle.trace_file.specs.Reading.{Progress, going, stopped, recordFault, recordOf, entered, readRecords, readSections, readFile, andThen, kindField, variableField, sourceField, valueField}
 use Rattle.trace_file.proofs.Entering.{long-fault}
 use Rattle.trace_file.proofs.Growing.{tests-passed, tests-processor}
 use Rattle.trace_file.proofs.Steps.{good-long}

@@ -8,7 +8,7 @@ use lib.ListN.{length, getD, drop}
 use Rattle.std.specs.Options.{isSome, valueOr}
 use Rattle.trace.specs.declared.operation.Kind.the-variants.{Read}
 use Rattle.trace.specs.declared.operation.Operation.{Operation}
-use Rattle.trace.specs.Operations.{kindNumber, kindOf}
+use Rattle.trace.specs.Operations.{kindOf}
 use Rattle.trace.proofs.Numbers.{kind-of-number, number-back}
 use Rattle.trace_file.specs.Files.{twoBytes, fourBytes, recordBytes}
 use Rattle.trace_file.specs.Reading.{kindField, variableField, sourceField, valueField, recordOf}

@@ -1,6 +1,6 @@
 -- The trace that has been told, and how it grows by one operation.
 use mathlib.Core.Path.{_≡_, refl, sym, ap, subst, _∙_}
-use mathlib.Core.Bool.{Bool, true, false, _&&_}
+use mathlib.Core.Bool.{true}
 use mathlib.Core.List.{List, [], _∷_, _++_}
 use Prim.Native.Nat.{ℕ, _+_, _-_, _^_, _<_, _≤_}
 use native.Mathlib.Omega.{arith}
@@ -8,13 +8,12 @@ use lib.Dec.{ltb}
 use lib.ListN.{length, getD, set, replicate}
 use Rattle.std.specs.Options.{isSome}
 use Rattle.std.specs.shelf.Lists.{sumBy, All}
-use Rattle.std.proofs.shelf.Elements.{all-getD}
 use Rattle.std.proofs.shelf.Lists.{length-set, length-push, length-append, getD-at, set-at}
-use Rattle.std.proofs.shelf.Sums.{sumBy-append, sumBy-cons, sumBy-set}
+use Rattle.std.proofs.shelf.Sums.{sumBy-set}
 use Rattle.std.proofs.shelf.Tests.{ltb-true, lt-ltb, and-from}
 use Rattle.trace.specs.declared.operation.Operation.{Operation}
 use Rattle.trace.specs.declared.operation.Kind.the-variants.{Read}
-use Rattle.trace.specs.Operations.{kindNumber, kindOf, Within, within, sourceFits, capacity, Fitting, fitting}
+use Rattle.trace.specs.Operations.{kindOf, Within, within, sourceFits, capacity, Fitting, fitting}
 use Rattle.trace.specs.Traces.{Trace, processorCount, operationCount, laneAt, WellFormed, laneFits, lanesFit}
 use Rattle.trace.specs.Calls.{operation, appended, recordRefusal}
 use Rattle.trace.proofs.Accepting.{unfailed, none-failed}

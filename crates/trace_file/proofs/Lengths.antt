@@ -1,13 +1,13 @@
 -- How long the parts of a file are, and how its writing goes on part by part.
-use mathlib.Core.Path.{_≡_, refl, sym, ap, subst, _∙_}
+use mathlib.Core.Path.{_≡_, refl, sym, ap, _∙_}
 use mathlib.Core.List.{List, [], _∷_, _++_}
-use Prim.Native.Nat.{ℕ, zero, suc, _+_, _*_, _<_, _≤_}
+use Prim.Native.Nat.{ℕ, _+_, _*_, _<_, _≤_}
 use native.Mathlib.Omega.{arith}
 use lib.ListN.{length, getD, take, drop}
 use Rattle.std.specs.shelf.Lists.{joined, sumBy, paste}
 use Rattle.std.proofs.shelf.Edits.{paste-none, paste-paste, paste-all, length-paste}
 use Rattle.std.proofs.shelf.Lists.{length-append, take-more, joined-more, take-all}
-use Rattle.std.proofs.shelf.Sums.{sumBy-cons, sumBy-more, sumBy-take-le}
+use Rattle.std.proofs.shelf.Sums.{sumBy-cons, sumBy-take-le}
 use Rattle.std.proofs.shelf.Tests.{cond-true, cond-false, lt-ltb, le-ltb}
 use Rattle.trace.specs.declared.operation.Operation.{Operation}
 use Rattle.trace.specs.Traces.{Trace, processorCount, operationCount}

@@ -1,28 +1,27 @@
 -- What a reading says of the bytes: a trace whose file they are, or their first fault.
 use mathlib.Core.Path.{_≡_, refl, sym, ap, subst, _∙_}
-use mathlib.Core.Bool.{Bool, true, false, _&&_}
+use mathlib.Core.Bool.{true, _&&_}
 use mathlib.Core.List.{List, [], _∷_, _++_}
 use mathlib.Core.Logic.{_⊎_, inl, inr, ⊎-elim}
 use Prim.Native.Nat.{ℕ, zero, suc, _+_, _-_, _<_, _≤_}
 use native.Mathlib.Omega.{arith}
-use lib.Dec.{ltb, eqb}
-use lib.ListN.{length, getD, drop, replicate}
-use Rattle.std.specs.shelf.Lists.{sumBy, joined}
+use lib.ListN.{length, drop, replicate}
+use Rattle.std.specs.shelf.Lists.{joined}
 use Rattle.std.proofs.shelf.Lists.{append-nil, append-assoc, length-push, getD-drop, joined-more, length-replicate}
 use Rattle.std.proofs.shelf.Tests.{cases-eq, cases-bool, cond-true, cond-false, eq-eqb, ne-eqb, le-ltb}
 use Rattle.std.proofs.shelf.Ways.{decides-and, not-from-decides}
 use Rattle.trace.specs.declared.operation.Operation.{Operation}
 use Rattle.trace.specs.Operations.{number, Within, within, fitting}
-use Rattle.trace.specs.Traces.{Trace, WellFormed}
+use Rattle.trace.specs.Traces.{WellFormed}
 use Rattle.trace.proofs.Fits.{fits-none}
 use Rattle.trace.proofs.Forming.{decides-within}
 use Rattle.trace.proofs.Lanes.{empty-count}
 use Rattle.trace_file.specs.Files.{recordBytes, sectionBytes, fileOf}
-use Rattle.trace_file.specs.Reading.{Reading, good, faulty, Progress, going, stopped, recordFault, entered, readRecords, readSection, readSections, readFile, andThen, kindField, variableField, sourceField, valueField, recordOf}
+use Rattle.trace_file.specs.Reading.{Reading, good, faulty, Progress, going, stopped, recordFault, readRecords, readSections, readFile, andThen, kindField, variableField, sourceField, valueField, recordOf}
 use Rattle.trace_file.specs.FirstFaults.{told, FirstFault, noSize, badSize, noCount, badRecord, leftOver}
 use Rattle.trace_file.proofs.Entering.{long-fault}
 use Rattle.trace_file.proofs.Forms.{Bytes, record-form, value-fits}
-use Rattle.trace_file.proofs.Growing.{Good, good-formed, told-more, good-more, Accepted, tests-passed, accepted-fits}
+use Rattle.trace_file.proofs.Growing.{Good, good-formed, told-more, good-more, tests-passed, accepted-fits}
 use Rattle.trace_file.proofs.Steps.{good-long}
 
 drop-bytes : (n : ℕ) (bytes : List ℕ) → Bytes bytes → Bytes (drop n bytes)

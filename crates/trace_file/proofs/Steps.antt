@@ -1,12 +1,11 @@
 -- One turn of each of the reader's loops, over plain values.
-use mathlib.Core.Path.{_≡_, refl, sym, ap, subst, _∙_}
+use mathlib.Core.Path.{_≡_, refl, sym, ap, _∙_}
 use mathlib.Core.Bool.{true, _&&_}
 use mathlib.Core.List.{List, [], _∷_}
-use mathlib.Core.Logic.{_⊎_, inl, inr, ⊎-elim}
-use Prim.Native.Nat.{ℕ, zero, suc, _+_, _-_, _*_, _<_, _≤_}
+use mathlib.Core.Logic.{_⊎_, ⊎-elim}
+use Prim.Native.Nat.{ℕ, suc, _+_, _-_, _*_, _<_, _≤_}
 use native.Mathlib.Omega.{arith}
-use lib.Dec.{ltb, eqb}
-use lib.ListN.{length, getD, take, drop}
+use lib.ListN.{length, getD, drop}
 use Rattle.std.specs.declared.result.Result.{Result}
 use Rattle.std.specs.declared.result.Result.the-variants.{Ok, Err}
 use Rattle.std.specs.shelf.Lists.{between}
@@ -21,7 +20,7 @@ use Rattle.trace_file.specs.declared.faults.RecordFault.the-variants.{Short, K
 use Rattle.trace_file.specs.declared.faults.SectionFault.{SectionFault}
 use Rattle.trace_file.specs.declared.faults.SectionFault.the-variants.{Record}
 use Rattle.trace_file.specs.Faults.{recordNumber, sectionNumber, sectionPlace}
-use Rattle.trace_file.specs.Reading.{Reading, Progress, going, stopped, good, faulty, recordFault, entered, readRecords, readSection, readSections, andThen, readFile}
+use Rattle.trace_file.specs.Reading.{going, stopped, good, faulty, recordFault, entered, readRecords, readSection, readSections, andThen, readFile}
 use Rattle.trace_file.specs.Outcomes.{placed, RecordEntered, SectionEntered}
 
 -- what `at` was given, by what it gave
@@ -149,9 +148,6 @@ module _ (bytes : List ℕ) (count : ℕ) (t : Trace) (s start : ℕ) (v : Secti
   file-ends e h = sym (v .read) ∙ none-left t s (count - s) (drop start bytes) (omega arith) (omega (arith, length-drop start bytes))
 
 -- the whole file
-
-pub file-short : (bytes : List ℕ) → length bytes < 2 → readFile bytes ≡ faulty 15 0
-file-short bytes h = cond-true _ _ _ (lt-ltb (length bytes) 2 h)
 
 pub file-starts : (bytes : List ℕ) (p v : ℕ) (t : Trace) → 2 ≤ length bytes → p ≡ getD bytes 0 0 → v ≡ getD bytes 1 0 → (within 1 8 p && within 1 16 v) ≡ true → t ≡ emptyTrace p v → Sectioning bytes p t 0 2
 file-starts bytes p v t h e f w is =

@@ -8,10 +8,10 @@ use Rattle.std.specs.declared.result.Result.the-variants.{Ok, Err}
 use Rattle.std.proofs.shelf.Tests.{false≢true}
 use Rattle.trace.specs.declared.table.Table.{Table}
 use Rattle.trace.specs.Tables.{traceOf}
-use Rattle.trace.specs.Traces.{Trace, WellFormed}
+use Rattle.trace.specs.Traces.{Trace}
 use Rattle.trace_file.specs.declared.faults.FileFault.{FileFault}
 use Rattle.trace_file.specs.Faults.{fileNumber, filePlace}
-use Rattle.trace_file.specs.Files.{fileOf, IsFile}
+use Rattle.trace_file.specs.Files.{IsFile}
 use Rattle.trace_file.specs.Reading.{good, faulty, readFile}
 use Rattle.trace_file.specs.Outcomes.{readingOf, FileRead}
 use Rattle.trace_file.proofs.Forms.{Bytes}

@@ -1,7 +1,6 @@
 -- The number and the place of each fault: a record's number passes up unaltered, and each layer adds its place.
 use Prim.Native.Nat.{ℕ}
 use Rattle.trace.specs.Operations.{number}
-use Rattle.trace_file.specs.declared.faults.At.{At}
 use Rattle.trace_file.specs.declared.faults.RecordFault.{RecordFault}
 use Rattle.trace_file.specs.declared.faults.RecordFault.the-variants as record-fault
 use Rattle.trace_file.specs.declared.faults.SectionFault.{SectionFault}

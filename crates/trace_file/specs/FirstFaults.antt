@@ -2,7 +2,7 @@
 -- Rests on the file of a trace, and on what is wrong with one record.
 use mathlib.Core.Path.{_≡_}
 use mathlib.Core.List.{List, [], _∷_, _++_}
-use Prim.Native.Nat.{ℕ, _+_, _-_, _<_}
+use Prim.Native.Nat.{ℕ, _+_, _<_}
 use lib.ListN.{length, replicate}
 use Rattle.std.specs.shelf.Lists.{joined}
 use Rattle.trace.specs.declared.operation.Operation.{Operation}

@@ -21,7 +21,7 @@ use Rattle.trace_file.specs.declared.faults.FileFault.the-variants.{Short}
 use Rattle.trace_file.specs.Files.{fileOf, IsFile}
 use Rattle.trace_file.specs.FirstFaults.{FirstFault}
 use Rattle.trace_file.specs.Faults.{recordNumber, sectionNumber, sectionPlace, fileNumber, filePlace}
-use Rattle.trace_file.specs.Reading.{Reading, good, faulty, Progress, going, stopped, recordFault, entered, readSection, readFile}
+use Rattle.trace_file.specs.Reading.{Reading, good, faulty, going, stopped, recordFault, entered, readSection, readFile}
 
 -- a fault with its position, what is good as it is
 abbrev pub placed : {T F : Type 0} → ℕ → Result T F → Result T (At F)

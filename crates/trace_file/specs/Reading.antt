@@ -1,6 +1,6 @@
 -- Reading a file: its bytes in order, up to the first fault.
 -- Each record is entered in the trace read so far, and refused as the call that records an operation refuses it.
-use mathlib.Core.Bool.{cond, not, _&&_}
+use mathlib.Core.Bool.{cond, _&&_}
 use mathlib.Core.List.{List, [], _∷_}
 use Prim.Native.Nat.{ℕ, zero, suc, _+_, _*_}
 use lib.Dec.{ltb, eqb}
@@ -8,7 +8,7 @@ use lib.ListN.{length, getD, drop}
 use Rattle.trace.specs.declared.operation.Operation.{Operation}
 use Rattle.trace.specs.Operations.{number, within}
 use Rattle.trace.specs.Traces.{Trace, operationCount, emptyTrace}
-use Rattle.trace.specs.Calls.{operation, appended, recordRefusal, sizeRefusal}
+use Rattle.trace.specs.Calls.{operation, appended, recordRefusal}
 
 -- what came of reading: a trace, or the number and the place of the first fault
 pub data Reading : Type 0 where

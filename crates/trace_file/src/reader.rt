@@ -1,8 +1,6 @@
 //! The reader: from bytes to a table, up to the first fault.
 ghost use mathlib.Core.Path.{_≡_};
-ghost use Prim.Native.Nat.{ℕ, _+_, _*_, _<_, _≤_};
-ghost use lib.ListN.{length, getD, drop};
-ghost use Rattle.std.specs.Results.{Cases};
+ghost use Prim.Native.Nat.{_+_, _*_, _<_};
 ghost use Rattle.trace.specs.Operations.{Within};
 ghost use Rattle.trace.specs.Tables.{traceOf};
 ghost use Rattle.trace.specs.Traces.{processorCount};

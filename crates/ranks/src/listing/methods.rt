@@ -1,10 +1,9 @@
 //! Making the list of a trace, and looking things up in it.
 ghost use mathlib.Core.Path.{_≡_};
-ghost use Prim.Native.Nat.{ℕ, _<_, _≤_};
+ghost use Prim.Native.Nat.{_<_, _≤_};
 ghost use lib.ListN.{length};
 ghost use Rattle.std.specs.Options.{Cases};
 ghost use Rattle.trace.specs.Tables.{traceOf};
-ghost use Rattle.trace.specs.Traces.{operationCount};
 ghost use Rattle.ranks.specs.Numbers.{numbers, numberAt, Numbers, RankOf, Unlisted};
 ghost use Rattle.ranks.specs.Listings.{listed};
 use crate::listing::Ranks;

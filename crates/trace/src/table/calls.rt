@@ -7,7 +7,7 @@ ghost use Rattle.std.specs.Orderings.{When};
 ghost use Rattle.trace.specs.Operations.{Within, within, kindNumber, isPosition, sourceFits, fitting};
 ghost use Rattle.trace.specs.Lanes.{laneOf};
 ghost use Rattle.trace.specs.Tables.{traceOf};
-ghost use Rattle.trace.specs.Traces.{processorCount, operationCount, laneAt, laneFits, emptyTrace};
+ghost use Rattle.trace.specs.Traces.{processorCount, laneAt, laneFits, emptyTrace};
 ghost use Rattle.trace.specs.Calls.{sizeAnswer, sizeAfter, recordAnswer, recordAfter, strikeAnswer, strikeAfter, withLane, appended};
 use crate::lane::Lane;
 use crate::operation::Kind;

@@ -1,12 +1,12 @@
-use mathlib.Core.Path.{_≡_, sym, ap, _∙_}
-use Prim.Native.Nat.{ℕ, _≤_}
+use mathlib.Core.Path.{_≡_, ap, _∙_}
+use Prim.Native.Nat.{_≤_}
 use borrow.Author.Needs.{needs}
 use native.Mathlib.Omega.{arith}
 use lib.ListN.{length}
 use Rattle.std.proofs.shelf.Lists.{take-rest}
 use Rattle.trace.specs.Tables.{traceOf}
 use Rattle.trace.specs.Calls.{recordAnswer, recordAfter}
-use Rattle.trace_file.specs.Reading.{recordFault, kindField, variableField, sourceField, valueField}
+use Rattle.trace_file.specs.Reading.{recordFault, kindField, variableField, sourceField}
 use Rattle.trace_file.proofs.Entering.{long-fault, fault-told, entered-after, full-else}
 use Rattle.trace_file.proofs.reader.read_record.Needs as need
 

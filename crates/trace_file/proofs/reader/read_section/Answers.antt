@@ -1,22 +1,13 @@
-use mathlib.Core.Path.{_≡_, refl, sym, ap, subst, _∙_}
-use mathlib.Core.List.{List}
-use Prim.Native.Nat.{ℕ, _<_, _+_}
+use mathlib.Core.Path.{sym, subst}
+use Prim.Native.Nat.{_<_, _+_}
 use borrow.Author.Needs.{needs}
 use native.Mathlib.Omega.{arith}
-use lib.ListN.{length, getD}
-use denote.Ref.{RefT}
-use Rattle.std.specs.declared.result.Result.{Result}
-use Rattle.std.specs.declared.result.Result.the-variants.{Ok, Err}
-use Rattle.std.specs.shelf.Lists.{between}
+use lib.ListN.{length}
 use Rattle.std.proofs.shelf.Results.{err-from-errBy}
 use Rattle.trace.specs.Operations.{Within}
 use Rattle.trace.specs.Tables.{traceOf}
-use Rattle.trace_file.specs.declared.faults.At.{At}
-use Rattle.trace_file.specs.declared.faults.RecordFault.{RecordFault}
-use Rattle.trace_file.specs.declared.faults.SectionFault.{SectionFault}
-use Rattle.trace_file.specs.declared.faults.SectionFault.the-variants.{Record}
 use Rattle.trace_file.specs.Outcomes.{RecordRead, SectionRead}
-use Rattle.trace_file.proofs.Steps.{Recording, placed-ok, placed-err, record-starts, record-again, section-stops, section-ends}
+use Rattle.trace_file.proofs.Steps.{placed-ok, placed-err, record-starts, record-again, section-stops, section-ends}
 use Rattle.trace_file.proofs.reader.read_section.Needs as need
 
 pub loop-before-holds : need.loop-before-holds

@@ -1,13 +1,13 @@
-use mathlib.Core.Path.{_≡_, sym, ap, subst, _∙_}
-use mathlib.Core.List.{List, [], _∷_}
-use Prim.Native.Nat.{ℕ, _+_, _≤_}
+use mathlib.Core.Path.{sym, ap, subst, _∙_}
+use mathlib.Core.List.{[], _∷_}
+use Prim.Native.Nat.{_+_, _≤_}
 use native.Mathlib.Omega.{arith}
-use lib.ListN.{length, getD}
+use lib.ListN.{length}
 use Rattle.std.specs.shelf.Lists.{joined, paste}
 use Rattle.trace.specs.declared.operation.Kind.the-variants.{Read}
 use Rattle.trace.specs.declared.operation.Operation.{Operation}
-use Rattle.trace_file.specs.Files.{recordBytes, sectionBytes}
-use Rattle.trace_file.proofs.Lengths.{Pasting, pasting-starts, pasting-room, pasting-again, pasting-ends, headed}
+use Rattle.trace_file.specs.Files.{recordBytes}
+use Rattle.trace_file.proofs.Lengths.{pasting-starts, pasting-room, pasting-again, pasting-ends, headed}
 use Rattle.trace_file.proofs.writer.write_section.Needs as need
 
 -- what a read past the lane's end would give

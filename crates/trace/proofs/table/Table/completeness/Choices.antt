@@ -1,5 +1,5 @@
 use mathlib.Core.Path.{_≡_}
-use Prim.Native.Nat.{_-_, _≤_}
+use Prim.Native.Nat.{_-_}
 use Rattle.trace.specs.Tables.{traceOf}
 use Rattle.trace.specs.Completeness.{firstRefusal, completenessAnswer}
 use Rattle.trace.proofs.table.Table.completeness.Given as given

@@ -1,8 +1,6 @@
-use mathlib.Core.Path.{_≡_, refl, sym, ap, subst, _∙_}
-use mathlib.Core.Bool.{true}
-use Prim.Native.Nat.{zero-le}
+use mathlib.Core.Path.{refl, sym, ap, _∙_}
 use native.Mathlib.Omega.{arith}
-use Rattle.trace.specs.Traces.{Trace, operationCount, lanesFit, emptyTrace}
+use Rattle.trace.specs.Traces.{operationCount, lanesFit}
 use Rattle.trace.proofs.Lanes.{empty-lanes, empty-count}
 use Rattle.trace.proofs.Fits.{fits-none}
 use Rattle.trace.proofs.table.Table.empty.Needs as need

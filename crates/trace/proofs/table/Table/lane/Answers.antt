@@ -1,4 +1,4 @@
-use mathlib.Core.Path.{_≡_, sym, _∙_}
+use mathlib.Core.Path.{sym, _∙_}
 use Rattle.trace.proofs.Lanes.{nobody, lane-is}
 use Rattle.trace.proofs.table.Table.lane.Needs as need
 

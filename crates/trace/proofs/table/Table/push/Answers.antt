@@ -1,13 +1,12 @@
-use mathlib.Core.Path.{_≡_, sym, ap, subst, _∙_}
-use mathlib.Core.Bool.{true}
-use mathlib.Core.List.{List, [], _∷_, _++_}
+use mathlib.Core.Path.{sym, ap, _∙_}
+use mathlib.Core.List.{[], _∷_, _++_}
 use Prim.Native.Nat.{_-_}
 use native.Mathlib.Omega.{arith}
 use lib.ListN.{length, getD}
 use Rattle.std.proofs.shelf.Lists.{length-push}
 use Rattle.trace.specs.Lanes.{laneOf}
 use Rattle.trace.specs.Tables.{traceOf}
-use Rattle.trace.specs.Traces.{laneAt, laneFits}
+use Rattle.trace.specs.Traces.{laneFits}
 use Rattle.trace.specs.Calls.{withLane}
 use Rattle.trace.proofs.Lanes.{lane-is, lane-within, lane-fit}
 use Rattle.trace.proofs.Fits.{fits-push}

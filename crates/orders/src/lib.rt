@@ -1,0 +1,2 @@
+//! What it is for orders to explain a trace under a model.
+pub mod legality;
