@@ -114,19 +114,22 @@ module _ (m : Meaning) (laws : Laws m) (t u : Trace) (ct : Complete t) (cu : Com
       let test = holds-test k in
       let held : (i : ℕ) → Stands (kept-by (holds-test k) list) i → m .holds t k i = λ i s. laws .told t k i .1 .0 (kept-stands (holds-test k) list i s .1) in
       record {
-        only = held;
-        every = λ i h. stands-kept test list i (e .every i (grown .holds k i h)) (laws .told t k i .1 .1 h);
-        once = λ before after i is s.
-            let r = unkept test list before after i is in
-            e .once (r .first) (r .second) i (r .is) (kept-stands test (r .first) i (subst (λ l. Stands l i) (sym (r .left)) s) .0);
+        exact =
+            record {
+              only = held;
+              every = λ i h. stands-kept test list i (e .exact .every i (grown .holds k i h)) (laws .told t k i .1 .1 h);
+              once = λ before after i is s.
+                  let r = unkept test list before after i is in
+                  e .exact .once (r .first) (r .second) i (r .is) (kept-stands test (r .first) i (subst (λ l. Stands l i) (sym (r .left)) s) .0);
+            };
         ordered = λ before after j is i b h.
             let r = unkept test list before after j is in
             subst (λ l. Stands l i) (r .left) (stands-kept test (r .first) i (e .ordered (r .first) (r .second) j (r .is) i (grown .before i j b) (grown .holds k i h)) (laws .told t k i .1 .1 h));
-        reads = λ before after j o is there read.
+        sourced = λ before after j o is there read.
             let r = unkept test list before after j is in
             let here = held j (record { before = before; after = after; is = is }) in
             subst (λ l. LastWrite t (o .variable) l (o .source)) (r .left)
-            (last-kept k (o .variable) (r .first) (o .source) (e .reads (r .first) (r .second) j o (r .is) (is-grows t u p j o there) read)
+            (last-kept k (o .variable) (r .first) (o .source) (e .sourced (r .first) (r .second) j o (r .is) (is-grows t u p j o there) read)
             (λ ne.
             let w = saw t ct j o there read ne in
             (laws .told t k (o .source) .1 .1 (laws .sources t ct k j o here there read ne), record { operation = w .0; there = w .1 .there; writes = w .1 .write; variable = w .1 .variable })));
@@ -166,10 +169,10 @@ module _ (m : Meaning) (laws : Laws m) (t u : Trace) (ct : Complete t) (cu : Com
         record {
           count = cut-length 0 orders ∙ meets .count ∙ sym sizes;
           each = λ k v. subst (Explains m t k) (sym (cut-view k orders (v .0))) (explains-cut k (viewAt orders k) (meets .each k (view-grows k v)));
-          same = λ a b i j va vb alike hi hj e.
+          agree = λ a b va vb i j alike hi hj e.
               subst (λ l. Earlier l i j) (sym (cut-view b orders (vb .0)))
               (earlier-kept (holds-test b) (viewAt orders b) i j
-              (meets .same a b i j (view-grows a va) (view-grows b vb) (grown .alike i j alike) (grown .holds b i hi) (grown .holds b j hj)
+              (meets .agree a b (view-grows a va) (view-grows b vb) i j (grown .alike i j alike) (grown .holds b i hi) (grown .holds b j hj)
               (kept-earlier (holds-test a) (viewAt orders a) i j (subst (λ l. Earlier l i j) (cut-view a orders (va .0)) e)))
               (laws .told t b i .1 .1 hi) (laws .told t b j .1 .1 hj));
         },

@@ -1,2 +1,4 @@
 pub mod Cutting
 pub mod NoViews
+pub mod Places
+pub mod Standing

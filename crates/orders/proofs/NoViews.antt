@@ -12,6 +12,6 @@ nothing-meets m t e = (
   record {
     count = sym e;
     each = λ k v. absurd (omega (arith, v .0, v .1, e));
-    same = λ a b i j va vb alike hi hj first. absurd (omega (arith, va .0, va .1, e));
+    agree = λ a b va vb i j alike hi hj first. absurd (omega (arith, va .0, va .1, e));
   },
 )

@@ -15,3 +15,7 @@ pub record Earlier (list : List ℕ) (i j : ℕ) : Type 0 where
   pub between : List ℕ
   pub after : List ℕ
   pub is : list ≡ before ++ i ∷ (between ++ j ∷ after)
+
+-- no number stands in the list twice
+abbrev pub Once : List ℕ → Type 0
+Once list = (before after : List ℕ) (i : ℕ) → list ≡ before ++ i ∷ after → Stands before i → ⊥

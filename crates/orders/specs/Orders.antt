@@ -10,7 +10,7 @@ use Rattle.trace.specs.declared.operation.Operation.{Operation}
 use Rattle.trace.specs.Operations.{isRead, isWrite}
 use Rattle.trace.specs.Traces.{Trace, processorCount}
 use Rattle.models.specs.Meaning.{Meaning, Is, View}
-use Rattle.orders.specs.Lists.{Stands, Earlier}
+use Rattle.orders.specs.Lists.{Stands, Earlier, Once}
 
 -- the list of view k, counted from 1; empty where there is no such view
 abbrev pub viewAt : List (List ℕ) → ℕ → List ℕ
@@ -33,25 +33,38 @@ pub data LastWrite (t : Trace) (v : ℕ) (list : List ℕ) : ℕ → Type 0 wher
 abbrev pub Sees : Trace → List ℕ → Operation → Type 0
 Sees t before r = LastWrite t (r .variable) before (r .source)
 
--- the list of view k keeps the first three clauses
-pub record Explains (m : Meaning) (t : Trace) (k : ℕ) (list : List ℕ) : Type 0 where
-  -- it has exactly the operations that the view holds, each once
+-- the first clause: the list has exactly the operations that view k holds, each once
+pub record Exact (m : Meaning) (t : Trace) (k : ℕ) (list : List ℕ) : Type 0 where
   pub only : (i : ℕ) → Stands list i → m .holds t k i
   pub every : (i : ℕ) → m .holds t k i → Stands list i
-  pub once : (before after : List ℕ) (i : ℕ) → list ≡ before ++ i ∷ after → Stands before i → ⊥
-  -- what is required before an operation, and held, stands earlier
-  pub ordered : (before after : List ℕ) (j : ℕ) → list ≡ before ++ j ∷ after → (i : ℕ) → m .before t i j → m .holds t k i → Stands before i
-  -- each read sees its source
-  pub reads : (before after : List ℕ) (j : ℕ) (r : Operation) → list ≡ before ++ j ∷ after → Is t j r → isRead r ≡ true → Sees t before r
+  pub once : Once list
+
+-- the second: what is required before an operation, and held, stands earlier
+abbrev pub Ordered : Meaning → Trace → ℕ → List ℕ → Type 0
+Ordered m t k list = (before after : List ℕ) (j : ℕ) → list ≡ before ++ j ∷ after → (i : ℕ) → m .before t i j → m .holds t k i → Stands before i
+
+-- the third: each read sees its source
+abbrev pub Sourced : Trace → List ℕ → Type 0
+Sourced t list = (before after : List ℕ) (j : ℕ) (r : Operation) → list ≡ before ++ j ∷ after → Is t j r → isRead r ≡ true → Sees t before r
+
+-- the fourth: two writes required alike stand in view b, if it holds both, as they do in another list
+abbrev pub Agrees : Meaning → Trace → ℕ → List ℕ → List ℕ → Type 0
+Agrees m t b other list = (i j : ℕ) → m .alike t i j → m .holds t b i → m .holds t b j → Earlier other i j → Earlier list i j
+
+-- the list of view k keeps the first three clauses
+pub record Explains (m : Meaning) (t : Trace) (k : ℕ) (list : List ℕ) : Type 0 where
+  pub exact : Exact m t k list
+  pub ordered : Ordered m t k list
+  pub sourced : Sourced t list
 
 -- orders meet a model on a trace
 pub record Meets (m : Meaning) (t : Trace) (orders : List (List ℕ)) : Type 0 where
   -- there is a list for each view
   pub count : length orders ≡ m .views (processorCount t) (t .variables)
-  -- and it keeps the first three clauses
+  -- it keeps the first three clauses
   pub each : (k : ℕ) → View m t k → Explains m t k (viewAt orders k)
-  -- two writes required alike stand in one order in every view that holds both
-  pub same : (a b i j : ℕ) → View m t a → View m t b → m .alike t i j → m .holds t b i → m .holds t b j → Earlier (viewAt orders a) i j → Earlier (viewAt orders b) i j
+  -- and the fourth with every other
+  pub agree : (a b : ℕ) → View m t a → View m t b → Agrees m t b (viewAt orders a) (viewAt orders b)
 
 -- the trace is legal under the model
 abbrev pub Legal : Meaning → Trace → Type 0
