@@ -2,3 +2,4 @@ pub mod Cutting
 pub mod NoViews
 pub mod Places
 pub mod Standing
+pub mod Findings
