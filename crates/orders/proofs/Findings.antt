@@ -10,7 +10,7 @@ use Rattle.std.proofs.shelf.Tests.{cases-lt}
 use Rattle.trace.specs.Traces.{Trace, processorCount}
 use Rattle.models.specs.Meaning.{Meaning}
 use Rattle.orders.specs.Orders.{viewAt, Explains, Meets}
-use Rattle.orders.specs.Inspecting.{written, EndsEarly, nothing, short, Fails, not-exact, not-ordered, not-sourced, Breaks, ends, fails, Disagrees, Begins, FindsLast, disagrees, left-over, meets, Finds, breaks, whole, Passes}
+use Rattle.orders.specs.Inspecting.{written, EndsEarly, nothing, short, Fails, not-exact, not-ordered, not-seeing, Breaks, ends, fails, Disagrees, Begins, FindsLast, disagrees, left-over, meets, Finds, breaks, whole, Passes}
 
 -- lists that go on to be the same, and are as long, are the same
 halves : (xs ys r s : List ℕ) → xs ++ r ≡ ys ++ s → length xs ≡ length ys → (xs ≡ ys) × (r ≡ s)
@@ -51,18 +51,18 @@ module _ (m : Meaning) (t : Trace) where
   explains-all : (k : ℕ) (list : List ℕ) (clause : ℕ) → Fails m t k list clause → Explains m t k list → ⊥
   explains-all k list _ (not-exact not) e = not (e .exact)
   explains-all k list _ (not-ordered is not) e = not (e .ordered)
-  explains-all k list _ (not-sourced is also not) e = not (e .sourced)
+  explains-all k list _ (not-seeing is also not) e = not (e .seeing)
 
   one-failure : (k : ℕ) (list : List ℕ) (c d : ℕ) → Fails m t k list c → Fails m t k list d → c ≡ d
   one-failure k list _ _ (not-exact not) (not-exact _) = refl
   one-failure k list _ _ (not-exact not) (not-ordered is _) = absurd (not is)
-  one-failure k list _ _ (not-exact not) (not-sourced is _ _) = absurd (not is)
+  one-failure k list _ _ (not-exact not) (not-seeing is _ _) = absurd (not is)
   one-failure k list _ _ (not-ordered is _) (not-exact not) = absurd (not is)
   one-failure k list _ _ (not-ordered _ _) (not-ordered _ _) = refl
-  one-failure k list _ _ (not-ordered _ not) (not-sourced _ is _) = absurd (not is)
-  one-failure k list _ _ (not-sourced is _ _) (not-exact not) = absurd (not is)
-  one-failure k list _ _ (not-sourced _ is _) (not-ordered _ not) = absurd (not is)
-  one-failure k list _ _ (not-sourced _ _ _) (not-sourced _ _ _) = refl
+  one-failure k list _ _ (not-ordered _ not) (not-seeing _ is _) = absurd (not is)
+  one-failure k list _ _ (not-seeing is _ _) (not-exact not) = absurd (not is)
+  one-failure k list _ _ (not-seeing _ is _) (not-ordered _ not) = absurd (not is)
+  one-failure k list _ _ (not-seeing _ _ _) (not-seeing _ _ _) = refl
 
   -- numbers that begin with a list do not end early
   goes-on : (list rest numbers : List ℕ) → EndsEarly numbers → numbers ≡ length list ∷ (list ++ rest) → ⊥

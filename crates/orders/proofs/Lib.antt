@@ -3,3 +3,6 @@ pub mod NoViews
 pub mod Places
 pub mod Standing
 pub mod Findings
+pub mod Parting
+pub mod Exactly
+pub mod Orderly

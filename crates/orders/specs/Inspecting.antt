@@ -6,7 +6,7 @@ use lib.ListN.{length}
 use Rattle.trace.specs.Operations.{Within}
 use Rattle.trace.specs.Traces.{Trace, processorCount}
 use Rattle.models.specs.Meaning.{Meaning, View}
-use Rattle.orders.specs.Orders.{viewAt, Exact, Ordered, Sourced, Agrees, Explains, Meets}
+use Rattle.orders.specs.Orders.{viewAt, Exact, Ordered, Seeing, Agrees, Explains, Meets}
 
 -- orders in writing: for each view how many operations it lists, and then these
 abbrev pub written : List (List ℕ) → List ℕ
@@ -22,7 +22,7 @@ pub data EndsEarly : List ℕ → Type 0 where
 pub data Fails (m : Meaning) (t : Trace) (k : ℕ) (list : List ℕ) : ℕ → Type 0 where
   not-exact : (Exact m t k list → ⊥) → Fails m t k list 1
   not-ordered : Exact m t k list → (Ordered m t k list → ⊥) → Fails m t k list 2
-  not-sourced : Exact m t k list → Ordered m t k list → (Sourced t list → ⊥) → Fails m t k list 3
+  not-seeing : Exact m t k list → Ordered m t k list → (Seeing t list → ⊥) → Fails m t k list 3
 
 -- the same, for the list that these numbers begin with
 pub data Breaks (m : Meaning) (t : Trace) (k : ℕ) (numbers : List ℕ) : ℕ → Type 0 where

@@ -44,8 +44,8 @@ abbrev pub Ordered : Meaning → Trace → ℕ → List ℕ → Type 0
 Ordered m t k list = (before after : List ℕ) (j : ℕ) → list ≡ before ++ j ∷ after → (i : ℕ) → m .before t i j → m .holds t k i → Stands before i
 
 -- the third: each read sees its source
-abbrev pub Sourced : Trace → List ℕ → Type 0
-Sourced t list = (before after : List ℕ) (j : ℕ) (r : Operation) → list ≡ before ++ j ∷ after → Is t j r → isRead r ≡ true → Sees t before r
+abbrev pub Seeing : Trace → List ℕ → Type 0
+Seeing t list = (before after : List ℕ) (j : ℕ) (r : Operation) → list ≡ before ++ j ∷ after → Is t j r → isRead r ≡ true → Sees t before r
 
 -- the fourth: two writes required alike stand in view b, if it holds both, as they do in another list
 abbrev pub Agrees : Meaning → Trace → ℕ → List ℕ → List ℕ → Type 0
@@ -55,7 +55,7 @@ Agrees m t b other list = (i j : ℕ) → m .alike t i j → m .holds t b i → 
 pub record Explains (m : Meaning) (t : Trace) (k : ℕ) (list : List ℕ) : Type 0 where
   pub exact : Exact m t k list
   pub ordered : Ordered m t k list
-  pub sourced : Sourced t list
+  pub seeing : Seeing t list
 
 -- orders meet a model on a trace
 pub record Meets (m : Meaning) (t : Trace) (orders : List (List ℕ)) : Type 0 where

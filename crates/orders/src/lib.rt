@@ -1,2 +1,3 @@
 //! What it is for orders to explain a trace under a model.
+pub mod clauses;
 pub mod legality;
