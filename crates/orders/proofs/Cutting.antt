@@ -125,11 +125,11 @@ module _ (m : Meaning) (laws : Laws m) (t u : Trace) (ct : Complete t) (cu : Com
         ordered = λ before after j is i b h.
             let r = unkept test list before after j is in
             subst (λ l. Stands l i) (r .left) (stands-kept test (r .first) i (e .ordered (r .first) (r .second) j (r .is) i (grown .before i j b) (grown .holds k i h)) (laws .told t k i .1 .1 h));
-        seeing = λ before after j o is there read.
+        seeing = λ before after j is o there read.
             let r = unkept test list before after j is in
             let here = held j (record { before = before; after = after; is = is }) in
             subst (λ l. LastWrite t (o .variable) l (o .source)) (r .left)
-            (last-kept k (o .variable) (r .first) (o .source) (e .seeing (r .first) (r .second) j o (r .is) (is-grows t u p j o there) read)
+            (last-kept k (o .variable) (r .first) (o .source) (e .seeing (r .first) (r .second) j (r .is) o (is-grows t u p j o there) read)
             (λ ne.
             let w = saw t ct j o there read ne in
             (laws .told t k (o .source) .1 .1 (laws .sources t ct k j o here there read ne), record { operation = w .0; there = w .1 .there; writes = w .1 .write; variable = w .1 .variable })));

@@ -6,3 +6,4 @@ pub mod Findings
 pub mod Parting
 pub mod Exactly
 pub mod Orderly
+pub mod LastWrites

@@ -36,7 +36,7 @@ module _ (m : Meaning) (laws : Laws m) (t : Trace) where
           held = here;
           new = good .exact .once front back j e;
           ordered = good .ordered front back j e;
-          sees = λ r. good .seeing front back j r e;
+          sees = good .seeing front back j e;
           agrees = λ a i low high alike held first.
               earlier-stands (viewAt whole (suc k)) front back i j (good .exact .once) e
               (meets .agree a (suc k) (low, omega (arith, high, view .1)) view i j alike held here
@@ -69,7 +69,7 @@ module _ (m : Meaning) (laws : Laws m) (t : Trace) where
                 once = λ front back i e. good front back i e .new;
               };
           ordered = λ front back j e. good front back j e .ordered;
-          seeing = λ front back j r e. good front back j e .sees r;
+          seeing = λ front back j e. good front back j e .sees;
         }
 
     -- a later view agrees with an earlier one

@@ -45,7 +45,7 @@ Ordered m t k list = (before after : List ℕ) (j : ℕ) → list ≡ before ++ 
 
 -- the third: each read sees its source
 abbrev pub Seeing : Trace → List ℕ → Type 0
-Seeing t list = (before after : List ℕ) (j : ℕ) (r : Operation) → list ≡ before ++ j ∷ after → Is t j r → isRead r ≡ true → Sees t before r
+Seeing t list = (before after : List ℕ) (j : ℕ) → list ≡ before ++ j ∷ after → (r : Operation) → Is t j r → isRead r ≡ true → Sees t before r
 
 -- the fourth: two writes required alike stand in view b, if it holds both, as they do in another list
 abbrev pub Agrees : Meaning → Trace → ℕ → List ℕ → List ℕ → Type 0
