@@ -75,7 +75,7 @@ fn tell(rt: &LibcRuntime, answer: (u8, u16), before: &Table, after: &Table) -> i
 }
 
 /// Takes a step, and prints it with its answer.
-pub fn take(rt: &LibcRuntime, table: &mut Table, step: Step) -> io::Result<()> {
+pub(crate) fn take(rt: &LibcRuntime, table: &mut Table, step: Step) -> io::Result<()> {
     print!(rt, "  {step:?}: ")?;
     let before = *table;
     let answer = match step {

@@ -85,7 +85,12 @@ fn differences<M: Model>(model: &M, table: &Table) -> usize {
 }
 
 /// Prints the answers of a model to the four questions.
-pub fn tell<M: Model>(rt: &LibcRuntime, name: &str, model: &M, table: &Table) -> io::Result<()> {
+pub(crate) fn tell<M: Model>(
+    rt: &LibcRuntime,
+    name: &str,
+    model: &M,
+    table: &Table,
+) -> io::Result<()> {
     println!(rt, "{name}")?;
     tell_views(rt, model, table)?;
     tell_before(rt, model, table)?;
