@@ -9,7 +9,6 @@ use lib.ListN.{length, getD}
 use Rattle.std.specs.declared.option.Option.the-variants.{Some, None}
 use Rattle.std.specs.shelf.Lists.{All, kept-by}
 use Rattle.std.proofs.shelf.Elements.{all-kept-by, all-weaker, kept-by-append}
-use Rattle.std.proofs.shelf.Lists.{length-append}
 use Rattle.std.proofs.shelf.Tests.{cases-bool, cond-true, cond-false}
 use Rattle.trace.specs.declared.operation.Operation.{Operation}
 use Rattle.trace.specs.Traces.{Trace, processorCount, Complete, Prefix}
@@ -18,6 +17,8 @@ use Rattle.models.specs.Growth.{is-grows}
 use Rattle.models.specs.BaseLaws.{saw}
 use Rattle.orders.specs.Lists.{Stands, Earlier}
 use Rattle.orders.specs.Orders.{viewAt, WriteTo, LastWrite, none, last, Explains, Legal}
+use Rattle.orders.proofs.Places.{not-parted}
+use Rattle.orders.proofs.Nothing.{none-and-some}
 
 -- lists that are cut down by a test
 module _ (test : ℕ → Bool) where
@@ -54,7 +55,7 @@ module _ (test : ℕ → Bool) where
         record { first = x ∷ r .first; second = r .second; is = ap (λ l. x ∷ l) (r .is); left = kept-yes x (r .first) b ∙ (λ k. head k ∷ r .left k); right = r .right; passes = r .passes }
 
   unkept : (list before after : List ℕ) (i : ℕ) → kept-by test list ≡ before ++ i ∷ after → Unkept list before after i
-  unkept [] before after i e = absurd (omega (arith, ap length e, length-append before (i ∷ after)))
+  unkept [] before after i e = absurd (not-parted before after i e)
   unkept (x ∷ list) before after i e =
       ⊎-elim
       (λ b. taken x list after i (λ front f. unkept list front after i f) before b (sym (kept-yes x list b) ∙ e))
@@ -96,10 +97,7 @@ module _ (m : Meaning) (laws : Laws m) (t u : Trace) (ct : Complete t) (cu : Com
   none-kept k v list a = all-weaker (λ i. WriteTo u v i → ⊥) (λ i. WriteTo t v i → ⊥) (λ i f w. f (write-grows v i w)) (kept-by (holds-test k) list) (all-kept-by (holds-test k) (λ i. WriteTo u v i → ⊥) list a)
 
   not-zero : (v s : ℕ) → WriteTo u v s → s ≡ 0 → ⊥
-  not-zero v s w e = absent (subst (λ x. Is u x (w .operation)) e (w .there))
-    where
-      absent : {o : Operation} → None ≡ Some o → ⊥
-      absent f = let z : _≡_ {A = ℕ} 0 1 = cc in omega arith
+  not-zero v s w e = none-and-some (subst (λ x. Is u x (w .operation)) e (w .there))
 
   last-kept : (k v : ℕ) (list : List ℕ) (s : ℕ) → LastWrite u v list s → ((s ≡ 0 → ⊥) → (holds-test k s ≡ true) × WriteTo t v s) → LastWrite t v (kept-by (holds-test k) list) s
   last-kept k v list s (none a) h = none (none-kept k v list a)

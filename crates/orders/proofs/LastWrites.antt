@@ -21,6 +21,7 @@ use Rattle.trace.specs.Traces.{Trace, operationAt}
 use Rattle.models.specs.Meaning.{Is}
 use Rattle.orders.specs.Orders.{WriteTo, LastWrite, none, last, Sees, Seeing}
 use Rattle.orders.proofs.Places.{same-place}
+use Rattle.orders.proofs.Nothing.{none-and-some}
 use Rattle.orders.proofs.Parting.{Each, each-here, each-more}
 
 -- what is so of all numbers of a list is so of one that stands in it
@@ -98,7 +99,4 @@ module _ (t : Trace) (list : List ℕ) (i : ℕ) (l : i < length list) where
     seeing-write o there other = each-more (SeesSource t) list i l sofar (λ r is read. absurd (not-read (o .kind) other (subst (λ z. isRead z ≡ true) (sym (one-operation there is)) read)))
 
     pub seeing-nothing : operationAt t (getD list i 0) ≡ None → Each (SeesSource t) (take (i + 1) list)
-    seeing-nothing gone = each-more (SeesSource t) list i l sofar (λ r is read. absurd (missing gone is))
-      where
-        missing : {r : Operation} → operationAt t (getD list i 0) ≡ None → operationAt t (getD list i 0) ≡ Some r → ⊥
-        missing e f = let z : _≡_ {A = ℕ} 0 1 = cc in omega arith
+    seeing-nothing gone = each-more (SeesSource t) list i l sofar (λ r is read. absurd (none-and-some (sym gone ∙ is)))

@@ -7,3 +7,4 @@ pub mod Parting
 pub mod Exactly
 pub mod Orderly
 pub mod LastWrites
+pub mod Nothing

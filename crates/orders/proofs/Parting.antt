@@ -19,6 +19,7 @@ use Rattle.ranks.specs.Listings.{listed}
 use Rattle.ranks.specs.declared.listing.Ranks.{Ranks}
 use Rattle.models.specs.Rows.{Row}
 use Rattle.orders.specs.Lists.{Stands}
+use Rattle.orders.proofs.Places.{not-parted}
 
 -- every number of the list is P of what stands before it
 abbrev pub Each : (List ℕ → ℕ → Type 0) → List ℕ → Type 0
@@ -39,7 +40,7 @@ snoc-parted (z ∷ xs) (y ∷ before) after x j e =
 
 module _ (P : List ℕ → ℕ → Type 0) where
   pub each-none : Each P []
-  each-none before after j e = absurd (omega (arith, ap length e, length-append before (j ∷ after)))
+  each-none before after j e = absurd (not-parted before after j e)
 
   pub each-more : (list : List ℕ) (i : ℕ) → i < length list → Each P (take i list) → P (take i list) (getD list i 0) → Each P (take (i + 1) list)
   each-more list i l all p before after j e =
@@ -81,7 +82,7 @@ module _ (t : Trace) (facts : Numbers t) where
       (cases-lt r s)
 
   pub seen-none : (seen : OpSet) → Empty seen → Seen t [] seen
-  seen-none seen e = record { each = λ r l. (λ b. absurd (both-ways (has seen r) (e r) b), λ s. absurd (omega (arith, ap length (s .is), length-append (s .before) (numberAt (numbers t) r ∷ s .after)))) }
+  seen-none seen e = record { each = λ r l. (λ b. absurd (both-ways (has seen r) (e r) b), λ s. absurd (not-parted (s .before) (s .after) (numberAt (numbers t) r) (s .is))) }
 
   pub seen-more : (list : List ℕ) (seen next : OpSet) (number rank : ℕ) → rank < 64 → Seen t list seen → RankOf (numbers t) number rank → ((k : ℕ) → has next k ≡ (has seen k || (eqb k rank && ltb rank 64))) → Seen t (list ++ number ∷ []) next
   seen-more list seen next number rank l s at e =

@@ -12,6 +12,10 @@ use Rattle.orders.specs.Lists.{Stands, Earlier, Once}
 compare : (a b : ℕ) → (a < b) ⊎ ((a ≡ b) ⊎ (b < a))
 compare a b = ⊎-elim inl (λ le. inr (⊎-elim inr (λ ge. inl (omega arith)) (cases-lt b a))) (cases-lt a b)
 
+-- an empty list is not parted
+pub not-parted : (front back : List ℕ) (i : ℕ) → [] ≡ front ++ i ∷ back → ⊥
+not-parted front back i e = omega (arith, ap length e, length-append front (i ∷ back))
+
 -- a list parted at i, and at j further on: i stands in the front of the second parting
 pub front-stands : (front back front' back' : List ℕ) (i j : ℕ) → front ++ i ∷ back ≡ front' ++ j ∷ back' → length front < length front' → Stands front' i
 front-stands front back [] back' i j e l = absurd (omega arith)
@@ -47,6 +51,9 @@ stands-earlier list front back i j e s =
 -- the parting at the later of two numbers
 parted-later : (list : List ℕ) (i j : ℕ) (e : Earlier list i j) → list ≡ (e .before ++ i ∷ e .between) ++ j ∷ e .after
 parted-later list i j e = e .is ∙ sym (append-assoc (e .before) (i ∷ e .between) (j ∷ e .after))
+
+pub later-stands : (list : List ℕ) (i j : ℕ) → Earlier list i j → Stands list j
+later-stands list i j e = record { before = e .before ++ i ∷ e .between; after = e .after; is = parted-later list i j e }
 
 -- where no number stands twice, each has one place
 pub one-place : (list front back front' back' : List ℕ) (i : ℕ) → Once list → list ≡ front ++ i ∷ back → list ≡ front' ++ i ∷ back' → length front ≡ length front'

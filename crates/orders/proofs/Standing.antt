@@ -5,7 +5,7 @@ use mathlib.Core.List.{List, [], _∷_, _++_}
 use Prim.Native.Nat.{ℕ, zero, suc, _+_, _≤_, _<_}
 use native.Mathlib.Omega.{arith}
 use lib.ListN.{length, getD}
-use Rattle.std.proofs.shelf.Lists.{length-append, append-assoc}
+use Rattle.std.proofs.shelf.Lists.{append-assoc}
 use Rattle.std.proofs.shelf.Tests.{cases-lt}
 use Rattle.trace.specs.Operations.{Within}
 use Rattle.trace.specs.Traces.{Trace, processorCount}
@@ -13,11 +13,11 @@ use Rattle.models.specs.Meaning.{Meaning, Laws, View}
 use Rattle.orders.specs.Lists.{Stands, Earlier}
 use Rattle.orders.specs.Orders.{viewAt, Explains, Agrees, Meets}
 use Rattle.orders.specs.Starts.{Placed, AllPlaced, Standing, StartOf}
-use Rattle.orders.proofs.Places.{stands-earlier, earlier-stands, one-way, either-way}
+use Rattle.orders.proofs.Places.{not-parted, stands-earlier, later-stands, earlier-stands, one-way, either-way}
 
 -- a view with something in it is one of those that there are
 getD-there : (lists : List (List ℕ)) (n : ℕ) (front back : List ℕ) (j : ℕ) → getD lists n [] ≡ front ++ j ∷ back → n < length lists
-getD-there [] n front back j e = absurd (let g : 0 ≡ length front + suc (length back) = (λ i. length (e i)) ∙ length-append front (j ∷ back) in omega arith)
+getD-there [] n front back j e = absurd (not-parted front back j e)
 getD-there (list ∷ lists) zero front back j e = omega arith
 getD-there (list ∷ lists) (suc n) front back j e = let g = getD-there lists n front back j e in omega arith
 
@@ -26,7 +26,7 @@ module _ (m : Meaning) (laws : Laws m) (t : Trace) where
   module _ (whole orders : List (List ℕ)) (part : List ℕ) (meets : Meets m t whole) (start : StartOf whole orders part) where
     -- whatever stands in them at a place may be placed there
     placed : (k : ℕ) → k ≤ suc (length orders) → (front back : List ℕ) (j : ℕ) → viewAt whole k ≡ front ++ j ∷ back → Placed m t orders k front j
-    placed zero le front back j e = absurd (let g : 0 ≡ length front + suc (length back) = (λ i. length (e i)) ∙ length-append front (j ∷ back) in omega arith)
+    placed zero le front back j e = absurd (not-parted front back j e)
     placed (suc k) le front back j e =
         let there = getD-there whole k front back j e in
         let view : View m t (suc k) = (omega arith, omega (arith, there, meets .count)) in
@@ -88,11 +88,8 @@ module _ (m : Meaning) (laws : Laws m) (t : Trace) where
         (λ same. absurd (one-way (viewAt orders a) i j once first (subst (λ x. Earlier (viewAt orders a) x i) same (subst (λ x. Earlier (viewAt orders a) i x) (sym same) first))))
         (⊎-elim
         (λ good. good)
-        (λ bad. absurd (one-way (viewAt orders a) i j once first (follows b a vb va l j i (laws .either t i j alike) (ea .only j (last-stands first)) (ea .only i si) bad))))
+        (λ bad. absurd (one-way (viewAt orders a) i j once first (follows b a vb va l j i (laws .either t i j alike) (ea .only j (later-stands (viewAt orders a) i j first)) (ea .only i si) bad))))
         (either-way (viewAt orders b) i j (standing .full b i (within b vb) hi) (standing .full b j (within b vb) hj))
-      where
-        last-stands : Earlier (viewAt orders a) i j → Stands (viewAt orders a) j
-        last-stands e = record { before = e .before ++ i ∷ e .between; after = e .after; is = e .is ∙ sym (append-assoc (e .before) (i ∷ e .between) (j ∷ e .after)) }
 
     agree : (a b : ℕ) → View m t a → View m t b → Agrees m t b (viewAt orders a) (viewAt orders b)
     agree a b va vb =
