@@ -1,4 +1,6 @@
 //! The calls on a trace table, at their edges and one after another; what is expected stands in `stdout`.
+#![tactic(auto)]
+
 use crate::step::{Case, take};
 use std::io;
 use trace::table::Table;

@@ -1,4 +1,6 @@
 //! Trace files at the edges of the format, read and written; what is expected stands in `stdout`.
+#![tactic(auto)]
+
 use std::alloc::{AllocError, Global};
 use std::io;
 use trace::table::Table;

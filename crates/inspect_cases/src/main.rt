@@ -1,9 +1,11 @@
 //! Orders put forward for worked traces, and every way to spoil them; what is expected stands in `stdout`.
+#![tactic(auto)]
+
 mod traces;
 
 use models::agreement::Agreement;
 use models::coherent::Coherent;
-use models::model::Model;
+use models::model::MemoryModel;
 use models::pram::Pram;
 use models::sequential::Sequential;
 use models::write_into::WriteInto;
@@ -14,7 +16,7 @@ use trace::table::Table;
 // What was done to the orders, and the numbers that are put forward.
 type Case = (&'static str, &'static [u16]);
 
-fn show<M: Model>(
+fn show<M: MemoryModel>(
     rt: &HostRuntime,
     model: &M,
     table: &Table,
@@ -25,7 +27,7 @@ fn show<M: Model>(
     println!(rt; "  {title}: {refusal} {value}")
 }
 
-fn run<M: Model>(
+fn run<M: MemoryModel>(
     rt: &HostRuntime,
     title: &str,
     model: &M,

@@ -4,16 +4,16 @@ ghost use Rattle.judge.specs.Law.{Law};
 
 use crate::calls::{Call, Played};
 use crate::judging::Judge;
-use models::model::Model;
+use models::model::MemoryModel;
 use std::alloc::{AllocError, Global};
 
 /// Plays calls, first to last, on a judge just made with a model, and gives back what comes of each.
-pub fn run<M: Model + Drop>(
+pub fn run<M: MemoryModel + Drop>(
     heap: Global,
     model: M,
     calls: Vec<Call>,
 ) -> Result<Vec<Played>, AllocError>
-    ensures { IfOk result (λ answers. Law (M.Model.meaning model) calls.items answers.items) }
+    ensures { IfOk result (λ answers. Law (M.MemoryModel.meaning model) calls.items answers.items) }
 {
     let mut judge = Judge::new(model);
     let mut answers = Vec::new(heap);

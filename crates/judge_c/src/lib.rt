@@ -1,4 +1,6 @@
 //! The judge for callers in C.
+#![tactic(auto)]
+
 ghost use Rattle.std.specs.Prelude.{◌≡◌};
 ghost use Rattle.judge_c.specs.Numbers.{one_number, Answered, Told};
 
@@ -6,7 +8,7 @@ use judge::judging::Judge;
 use letters::Letters;
 use models::agreement::Agreement;
 use models::coherent::Coherent;
-use models::model::Model;
+use models::model::MemoryModel;
 use models::pram::Pram;
 use models::sequential::Sequential;
 use models::write_into::WriteInto;
@@ -23,8 +25,8 @@ fn one_number(refusal: u8, value: u16) -> u32
 }
 
 // Judges a file under a model.
-fn answer<M: Model + Drop>(model: M, file: &[u8]) -> u32
-    ensures { Answered (M.Model.meaning model) file.now result }
+fn answer<M: MemoryModel + Drop>(model: M, file: &[u8]) -> u32
+    ensures { Answered (M.MemoryModel.meaning model) file.now result }
 {
     let mut judge = Judge::new(model);
     let (refusal, place) = judge.load(file);

@@ -1,4 +1,6 @@
 //! Scripted runs of calls on a judge; what is expected stands in `stdout`.
+#![tactic(auto)]
+
 mod full;
 mod growing;
 mod refusals;

@@ -1,7 +1,7 @@
 //! The steps of a case, the calls that they make, and what is printed of each.
 use judge::calls::{Call, Played};
 use judge::running::run;
-use models::model::Model;
+use models::model::MemoryModel;
 use std::alloc::Global;
 use std::io;
 use trace_file::changes::Change;
@@ -118,7 +118,7 @@ fn script(heap: Global, steps: &[Step]) -> anyhow::Result<Vec<Call>> {
 }
 
 /// Runs each case on a judge with the model, and prints every answer with the slots or the bytes as they were left.
-pub(crate) fn play<M: Model + Copy + Drop>(
+pub(crate) fn play<M: MemoryModel + Copy + Drop>(
     rt: &HostRuntime,
     title: &str,
     model: M,

@@ -7,7 +7,7 @@ ghost use Rattle.judge_text.specs.Told.{FileTold};
 use crate::lines::{refused_line, view_line};
 use judge::calls::{Call, Played};
 use judge::running::run;
-use models::model::Model;
+use models::model::MemoryModel;
 use std::alloc::{AllocError, Global};
 use trace_file::changes::Change;
 
@@ -79,12 +79,12 @@ fn answers_text(heap: Global, answers: &[Played]) -> Result<String, AllocError>
 }
 
 /// Gives the text for a model and a file.
-pub(crate) fn judged<M: Model + Drop>(
+pub(crate) fn judged<M: MemoryModel + Drop>(
     heap: Global,
     model: M,
     file: &[u8],
 ) -> Result<String, AllocError>
-    ensures { IfOk result (λ s. FileTold (M.Model.meaning model) file.now (string_bytes s)) }
+    ensures { IfOk result (λ s. FileTold (M.MemoryModel.meaning model) file.now (string_bytes s)) }
 {
     let answers = run(heap, model, calls(heap, file)?)?;
     answers_text(heap, answers.as_slice())

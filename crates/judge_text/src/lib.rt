@@ -1,4 +1,6 @@
 //! The text that is printed for letters and a trace file.
+#![tactic(auto)]
+
 ghost use Rattle.std.specs.Prelude.{IfOk, string_bytes};
 ghost use Rattle.judge_text.specs.Told.{Told, Settled, Enough};
 

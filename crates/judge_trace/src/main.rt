@@ -1,4 +1,6 @@
 //! Judges the trace file on standard input by the model whose letters stand before it.
+#![tactic(auto)]
+
 ghost use Rattle.std.specs.Prelude.{◌≤◌, IfOk};
 
 use judge_text::text;

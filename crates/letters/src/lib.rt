@@ -1,4 +1,6 @@
 //! The letters that name a model.
+#![tactic(auto)]
+
 ghost use Rattle.std.specs.Prelude.{◌≡◌, MatchOption};
 ghost use Rattle.letters.specs.Names.{Unnamed, named};
 

@@ -1,8 +1,10 @@
 //! How long a model takes to fill all its tables for a trace of 64 operations.
 //! Without an argument it does nothing, so that a run in the gate prints nothing.
+#![tactic(auto)]
+
 use models::agreement::Agreement;
 use models::coherent::Coherent;
-use models::model::Model;
+use models::model::MemoryModel;
 use models::pram::Pram;
 use models::sequential::Sequential;
 use models::write_into::WriteInto;
@@ -37,7 +39,7 @@ fn full() -> Table {
 }
 
 // Fills every table, and counts what is in them, so that no table is left out.
-fn fill<M: Model>(model: &M, table: &Table) -> usize {
+fn fill<M: MemoryModel>(model: &M, table: &Table) -> usize {
     let mut members: usize = 0;
     for view in 0..model.views(table.processors(), table.variables()) {
         members = members.saturating_add(model.held(table, view.saturating_add(1)).len());
@@ -52,7 +54,7 @@ fn fill<M: Model>(model: &M, table: &Table) -> usize {
 }
 
 // Prints the time for a trace and for a table of it, and the ratio to the baseline; gives the time.
-fn measure<M: Model>(
+fn measure<M: MemoryModel>(
     rt: &HostRuntime,
     name: &str,
     model: &M,

@@ -1,4 +1,6 @@
 //! The four questions of every model on worked traces, and a model that is written outside the library.
+#![tactic(auto)]
+
 mod no_views;
 mod telling;
 

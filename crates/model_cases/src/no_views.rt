@@ -1,14 +1,14 @@
 //! A model of this crate's own: it has no views, and requires nothing.
 ghost use Rattle.model_cases.specs.NoViews.{no_views, no_views_laws};
 
-use models::model::Model;
+use models::model::MemoryModel;
 use trace::table::Table;
 
 /// The model without views.
 #[derive(Clone, Copy)]
 pub struct NoViews;
 
-pub impl Model for NoViews as NoViewsModel {
+impl MemoryModel for NoViews {
     ghost meaning = { λ _. no_views };
 
     ghost laws = { λ _. no_views_laws };

@@ -1,5 +1,5 @@
 //! Printing what a model answers.
-use models::model::Model;
+use models::model::MemoryModel;
 use ranks::listing::Ranks;
 use std::io;
 use trace::table::Table;
@@ -9,7 +9,7 @@ const PROBES: [u16; 17] = [
     0, 1, 100, 101, 102, 103, 104, 105, 150, 201, 202, 203, 204, 301, 302, 303, 401,
 ];
 
-fn tell_views<M: Model>(rt: &HostRuntime, model: &M, table: &Table) -> io::Result<()> {
+fn tell_views<M: MemoryModel>(rt: &HostRuntime, model: &M, table: &Table) -> io::Result<()> {
     let views = model.views(table.processors(), table.variables());
     println!(rt; "  views {views}")?;
     for view in 0..views.saturating_add(2) {
@@ -24,7 +24,7 @@ fn tell_views<M: Model>(rt: &HostRuntime, model: &M, table: &Table) -> io::Resul
     Ok(())
 }
 
-fn tell_before<M: Model>(rt: &HostRuntime, model: &M, table: &Table) -> io::Result<()> {
+fn tell_before<M: MemoryModel>(rt: &HostRuntime, model: &M, table: &Table) -> io::Result<()> {
     print!(rt; "  before:")?;
     for first in PROBES {
         for second in PROBES {
@@ -36,7 +36,7 @@ fn tell_before<M: Model>(rt: &HostRuntime, model: &M, table: &Table) -> io::Resu
     println!(rt; "")
 }
 
-fn tell_alike<M: Model>(rt: &HostRuntime, model: &M, table: &Table) -> io::Result<()> {
+fn tell_alike<M: MemoryModel>(rt: &HostRuntime, model: &M, table: &Table) -> io::Result<()> {
     print!(rt; "  alike:")?;
     for one in PROBES {
         for other in PROBES {
@@ -49,7 +49,7 @@ fn tell_alike<M: Model>(rt: &HostRuntime, model: &M, table: &Table) -> io::Resul
 }
 
 // How often a whole table and the question differ.
-fn differences<M: Model>(model: &M, table: &Table) -> usize {
+fn differences<M: MemoryModel>(model: &M, table: &Table) -> usize {
     let ranks = Ranks::of(table);
     let before = model.before_rows(table);
     let alike = model.alike_rows(table);
@@ -69,7 +69,7 @@ fn differences<M: Model>(model: &M, table: &Table) -> usize {
 }
 
 /// Prints the answers of a model to the four questions.
-pub(crate) fn tell<M: Model>(
+pub(crate) fn tell<M: MemoryModel>(
     rt: &HostRuntime,
     name: &str,
     model: &M,

@@ -5,3 +5,4 @@ pub mod Growth
 pub mod Bases
 pub mod BaseLaws
 pub mod Layers
+pub mod Writes

@@ -2,9 +2,9 @@
 ghost use Rattle.std.specs.Prelude.{Decides};
 ghost use Rattle.trace.specs.Tables.{trace_of};
 ghost use Rattle.models.specs.Layers.{SameVariable, agreement, HoldsWrites, agreement_laws};
-ghost use Rattle.std.proofs.Common.{rules};
+ghost use Rattle.models.specs.Writes.{sequential_every, pram_every, write_into_every, agreement_every};
 
-use crate::model::Model;
+use crate::model::MemoryModel;
 use crate::pram::Pram;
 use crate::sequential::Sequential;
 use crate::write_into::WriteInto;
@@ -36,30 +36,30 @@ fn same_variable(table: &Table, one: u16, other: u16) -> bool
 }
 
 /// A model whose every view holds every write.
-pub trait EveryWrite: Model {
-    ghost every: { (m : Self) → HoldsWrites (Self.Model.meaning m) };
+pub trait EveryWrite: MemoryModel {
+    ghost every: { (m : Self) → HoldsWrites (Self.MemoryModel.meaning m) };
 }
 
 impl EveryWrite for Sequential {
-    ghost every = { Prim.search rules };
+    ghost every = { λ _. sequential_every };
 }
 
 impl EveryWrite for Pram {
-    ghost every = { Prim.search rules };
+    ghost every = { λ _. pram_every };
 }
 
 impl<M: EveryWrite> EveryWrite for WriteInto<M> {
-    ghost every = { Prim.search rules };
+    ghost every = { λ f. write_into_every (M.MemoryModel.meaning f.below) (M.EveryWrite.every f.below) };
 }
 
 impl<M: EveryWrite> EveryWrite for Agreement<M> {
-    ghost every = { Prim.search rules };
+    ghost every = { λ a. agreement_every (M.MemoryModel.meaning a.below) (M.EveryWrite.every a.below) };
 }
 
-pub impl<M: EveryWrite> Model for Agreement<M> as AgreementModel {
-    ghost meaning = { λ a. agreement (M.Model.meaning a.below) };
+impl<M: EveryWrite> MemoryModel for Agreement<M> {
+    ghost meaning = { λ a. agreement (M.MemoryModel.meaning a.below) };
 
-    ghost laws = { λ a. agreement_laws (M.Model.meaning a.below) (M.Model.laws a.below) };
+    ghost laws = { λ a. agreement_laws (M.MemoryModel.meaning a.below) (M.MemoryModel.laws a.below) };
 
     fn views(&self, processors: u8, variables: u8) -> u8 {
         self.below.views(processors, variables)

@@ -2,7 +2,7 @@
 ghost use Rattle.models.specs.Bases.{coherent};
 ghost use Rattle.models.specs.BaseLaws.{coherent_laws};
 
-use crate::model::Model;
+use crate::model::MemoryModel;
 use crate::program_order::in_program_order;
 use trace::table::Table;
 
@@ -10,7 +10,7 @@ use trace::table::Table;
 #[derive(Clone, Copy)]
 pub struct Coherent;
 
-pub impl Model for Coherent as CoherentModel {
+impl MemoryModel for Coherent {
     ghost meaning = { λ _. coherent };
 
     ghost laws = { λ _. coherent_laws };

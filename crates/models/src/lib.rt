@@ -1,4 +1,6 @@
 //! Memory models: the four questions that each answers of a trace, three base models, and two layers.
+#![tactic(auto)]
+
 pub mod agreement;
 mod closure;
 pub mod coherent;

@@ -10,7 +10,7 @@ use ranks::listing::Ranks;
 use trace::table::Table;
 
 /// A memory model, by four questions about a trace; each answers its fact, and no for what is not there.
-pub trait Model {
+pub trait MemoryModel {
     /// What the model means: how many views there are, what each holds, and what is required before and alike.
     ghost meaning: { Self → Meaning };
 

@@ -2,7 +2,7 @@
 ghost use Rattle.models.specs.Bases.{pram};
 ghost use Rattle.models.specs.BaseLaws.{pram_laws};
 
-use crate::model::Model;
+use crate::model::MemoryModel;
 use crate::program_order::in_program_order;
 use trace::operation::Kind;
 use trace::table::Table;
@@ -11,7 +11,7 @@ use trace::table::Table;
 #[derive(Clone, Copy)]
 pub struct Pram;
 
-pub impl Model for Pram as PramModel {
+impl MemoryModel for Pram {
     ghost meaning = { λ _. pram };
 
     ghost laws = { λ _. pram_laws };

@@ -2,7 +2,7 @@
 ghost use Rattle.models.specs.Bases.{sequential};
 ghost use Rattle.models.specs.BaseLaws.{sequential_laws};
 
-use crate::model::Model;
+use crate::model::MemoryModel;
 use crate::program_order::in_program_order;
 use trace::table::Table;
 
@@ -10,7 +10,7 @@ use trace::table::Table;
 #[derive(Clone, Copy)]
 pub struct Sequential;
 
-pub impl Model for Sequential as SequentialModel {
+impl MemoryModel for Sequential {
     ghost meaning = { λ _. sequential };
 
     ghost laws = { λ _. sequential_laws };

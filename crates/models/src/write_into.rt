@@ -7,7 +7,7 @@ ghost use Rattle.models.specs.Rows.{Row, Added};
 ghost use Rattle.models.specs.Layers.{Names, write_into, write_into_laws};
 
 use crate::closure::close;
-use crate::model::Model;
+use crate::model::MemoryModel;
 use opset::OpSet;
 use ranks::listing::Ranks;
 use trace::operation::Kind;
@@ -58,10 +58,10 @@ fn add_named(table: &Table, rows: &mut [OpSet; 64])
     }
 }
 
-pub impl<M: Model> Model for WriteInto<M> as WriteIntoModel {
-    ghost meaning = { λ f. write_into (M.Model.meaning f.below) };
+impl<M: MemoryModel> MemoryModel for WriteInto<M> {
+    ghost meaning = { λ f. write_into (M.MemoryModel.meaning f.below) };
 
-    ghost laws = { λ f. write_into_laws (M.Model.meaning f.below) (M.Model.laws f.below) };
+    ghost laws = { λ f. write_into_laws (M.MemoryModel.meaning f.below) (M.MemoryModel.laws f.below) };
 
     fn views(&self, processors: u8, variables: u8) -> u8 {
         self.below.views(processors, variables)

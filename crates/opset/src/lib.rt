@@ -1,4 +1,6 @@
 //! A set of up to 64 operations, held in one word.
+#![tactic(auto)]
+
 ghost use Rattle.std.specs.Prelude.{◌≡◌, ℕ, ◌≤◌, min, false, not, ◌&&◌, ◌||◌, List, length, Decides, MatchOption, ◌==◌, nat_lt};
 ghost use Rattle.opset.specs.Sets.{has, members, size, Empty, Subset, Least, Listed};
 

@@ -5,7 +5,7 @@ ghost use Rattle.trace.specs.Tables.{trace_of};
 ghost use Rattle.orders.specs.Tables.{EarlierRows};
 ghost use Rattle.orders.specs.Orders.{WriteTo, LastWrite, Exact, Ordered, Seeing, Agrees};
 
-use models::model::Model;
+use models::model::MemoryModel;
 use opset::OpSet;
 use ranks::listing::Ranks;
 use trace::operation::Kind;
@@ -19,7 +19,7 @@ fn has_all(set: OpSet, wanted: OpSet) -> bool
 }
 
 /// Tells whether a list has exactly the operations that a view holds, each once.
-pub fn is_exact<M: Model>(model: &M, table: &Table, view: u8, list: &[u16]) -> bool
+pub fn is_exact<M: MemoryModel>(model: &M, table: &Table, view: u8, list: &[u16]) -> bool
     ensures { Decides result (Exact (meaning model.now) (trace_of table.now) view list.now) }
 {
     let ranks = Ranks::of(table);
@@ -38,7 +38,7 @@ pub fn is_exact<M: Model>(model: &M, table: &Table, view: u8, list: &[u16]) -> b
 }
 
 /// Tells whether all that a view holds, and is required before an operation of a list, stands earlier in the list.
-pub fn is_ordered<M: Model>(model: &M, table: &Table, view: u8, list: &[u16]) -> bool
+pub fn is_ordered<M: MemoryModel>(model: &M, table: &Table, view: u8, list: &[u16]) -> bool
     ensures { Decides result (Ordered (meaning model.now) (trace_of table.now) view list.now) }
 {
     let ranks = Ranks::of(table);
@@ -112,7 +112,7 @@ fn earlier_rows(table: &Table, list: &[u16]) -> [OpSet; 64]
 }
 
 /// Tells whether writes required alike, which a view holds and another list has in some order, stand in the list in that order.
-pub fn is_agreeing<M: Model>(
+pub fn is_agreeing<M: MemoryModel>(
     model: &M,
     table: &Table,
     view: u8,

@@ -6,7 +6,7 @@ ghost use Rattle.orders.specs.Orders.{Explains};
 ghost use Rattle.orders.specs.Inspecting.{written, EndsEarly, Parts, Fails, Passing, AgreesWithEarlier, DisagreesWith, AgreeBefore, Disagrees, Failure, Passes, Finds, Inspected};
 
 use crate::clauses::{is_agreeing, is_exact, is_ordered, is_seeing};
-use models::model::Model;
+use models::model::MemoryModel;
 use trace::table::Table;
 
 // Parts numbers after the list that they begin with; nothing where they end before it does.
@@ -25,7 +25,7 @@ fn split_list<'a>(numbers: &'a [u16]) -> Option<(&'a [u16], &'a [u16])>
 }
 
 // Tells the first of a view's own clauses that its list breaks, if any.
-fn broken_clause<M: Model>(model: &M, table: &Table, view: u8, list: &[u16]) -> Option<u16>
+fn broken_clause<M: MemoryModel>(model: &M, table: &Table, view: u8, list: &[u16]) -> Option<u16>
     ensures { MatchOption result (Explains (meaning model.now) (trace_of table.now) view list.now) (Fails (meaning model.now) (trace_of table.now) view list.now) }
 {
     if !is_exact(model, table, view, list) {
@@ -41,7 +41,7 @@ fn broken_clause<M: Model>(model: &M, table: &Table, view: u8, list: &[u16]) -> 
 }
 
 // Passes over the list of a view, and gives the numbers after it, or the first clause of its own that it breaks.
-fn pass_list<'a, M: Model>(
+fn pass_list<'a, M: MemoryModel>(
     model: &M,
     table: &Table,
     view: u8,
@@ -59,14 +59,14 @@ fn pass_list<'a, M: Model>(
 }
 
 // Tells how many views the model has of a trace.
-fn views_of<M: Model>(model: &M, table: &Table) -> u8
+fn views_of<M: MemoryModel>(model: &M, table: &Table) -> u8
     ensures { result ≡ (meaning model.now).views (processor_count (trace_of table.now)) (trace_of table.now).variables }
 {
     model.views(table.processors(), table.variables())
 }
 
 // Finds the first view before this one whose list, as the numbers have it, this one's does not agree with.
-fn find_other<M: Model>(
+fn find_other<M: MemoryModel>(
     model: &M,
     table: &Table,
     view: u8,
@@ -87,7 +87,7 @@ fn find_other<M: Model>(
 }
 
 // Finds the first view whose list, as the numbers have it, does not agree with an earlier view's.
-fn find_disagreeing<M: Model>(model: &M, table: &Table, numbers: &[u16]) -> Option<u8>
+fn find_disagreeing<M: MemoryModel>(model: &M, table: &Table, numbers: &[u16]) -> Option<u8>
     ensures { (orders : List (List ℕ)) (rest : List ℕ) → numbers.now ≡ written orders ++ rest → length orders ≡ (meaning model.now).views (processor_count (trace_of table.now)) (trace_of table.now).variables → MatchOption result (AgreeBefore (meaning model.now) (trace_of table.now) orders (suc (length orders))) (Disagrees (meaning model.now) (trace_of table.now) orders) }
 {
     let mut rest = numbers;
@@ -103,7 +103,7 @@ fn find_disagreeing<M: Model>(model: &M, table: &Table, numbers: &[u16]) -> Opti
 }
 
 // Finds the first thing that is wrong with orders in writing, by its number; 0 where nothing is.
-fn find<M: Model>(model: &M, table: &Table, numbers: &[u16]) -> u16
+fn find<M: MemoryModel>(model: &M, table: &Table, numbers: &[u16]) -> u16
     ensures { Finds (meaning model.now) (trace_of table.now) numbers.now result }
 {
     let mut rest = numbers;
@@ -123,7 +123,7 @@ fn find<M: Model>(model: &M, table: &Table, numbers: &[u16]) -> u16
 /// Inspects orders in writing: for each view in turn a count, and then that many operation numbers.
 ///
 /// Answers 0 and what is found, or a refusal and its place where the trace is not complete.
-pub fn inspect<M: Model>(model: &M, table: &Table, numbers: &[u16]) -> (u8, u16)
+pub fn inspect<M: MemoryModel>(model: &M, table: &Table, numbers: &[u16]) -> (u8, u16)
     ensures answer { Inspected (meaning model.now) (trace_of table.now) numbers.now result }
     ensures one { (other : ℕ × ℕ) → Inspected (meaning model.now) (trace_of table.now) numbers.now other → other ≡ result }
     ensures passes { Complete (trace_of table.now) → Decides (result.1 == 0) (Passes (meaning model.now) (trace_of table.now) numbers.now) }

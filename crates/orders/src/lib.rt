@@ -1,4 +1,6 @@
 //! What it is for orders to explain a trace under a model.
+#![tactic(auto)]
+
 pub mod clauses;
 pub mod inspection;
 pub mod legality;

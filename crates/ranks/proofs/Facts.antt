@@ -9,7 +9,7 @@ use Rattle.trace.specs.declared.operation.Kind.TheVariants.{Read}
 use Rattle.trace.specs.declared.operation.Operation.{Operation}
 use Rattle.trace.specs.Operations.{processor_of, position_of}
 use Rattle.trace.specs.Traces.{Trace, processor_count, operation_count, operation_at, lane_at, positioned, There}
-use Rattle.trace.proofs.Lanes.{lane-at, nowhere_below, nowhere_past, positioned_in, positioned_out}
+use Rattle.trace.proofs.Lanes.{lane_at_place, nowhere_below, nowhere_past, positioned_in, positioned_out}
 use Rattle.ranks.specs.Numbers.{numbers_from, numbers, Numbers}
 
 unused : Operation
@@ -127,7 +127,7 @@ module _ (t : Trace) where
   blocks w hundred few zero p low e = sym (ap (sum_by length) (drop_all (p - 1) t.lanes (omega arith)))
   blocks w hundred few (suc k) p low e =
       let within : p - 1 < length t.lanes = omega arith in
-      let same = ap length (lane-at t p low) in
+      let same = ap length (lane_at_place t p low) in
       let short : length (lane_at t p) ≤ 64 = omega (arith, same, get_or-le-sum_by length t.lanes (p - 1) [] within) in
       let start : 100 * p + 1 ≡ 100 * p + 1 + 0 = omega arith in
       let first : length (numbers_from t (100 * p + 1) w) ≡ length (lane_at t p) - 0 = ap (λ i. length (numbers_from t i w)) start ∙ block p short w 0 (omega arith) in

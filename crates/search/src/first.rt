@@ -8,7 +8,7 @@ ghost use Rattle.search.specs.Found.{orders_of, FirstFound};
 use crate::building::fill_all;
 use crate::found::Orders;
 use crate::tables::Tables;
-use models::model::Model;
+use models::model::MemoryModel;
 use trace::table::Table;
 
 impl Tables {
@@ -25,7 +25,7 @@ impl Tables {
 }
 
 /// Finds the first of all orders that meet a model on a trace; nothing where there are none.
-pub fn first_orders<M: Model>(model: &M, table: &Table) -> Option<Orders>
+pub fn first_orders<M: MemoryModel>(model: &M, table: &Table) -> Option<Orders>
     ensures { MatchOption result (Legal (meaning model.now) (trace_of table.now) → ⊥) (λ o. First (meaning model.now) (trace_of table.now) (orders_of o)) }
 {
     Tables::of(model, table).first_orders()

@@ -1,4 +1,6 @@
 //! The search for the first orders that explain a trace under a model.
+#![tactic(auto)]
+
 mod building;
 pub mod first;
 pub mod found;

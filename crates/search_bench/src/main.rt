@@ -1,7 +1,9 @@
 //! How long the search takes: reads the letter of a model (S, C or P) and a trace file, and prints the verdict and the
 //! nanoseconds of one search, without those of its tables. On empty input it does nothing.
+#![tactic(auto)]
+
 use models::coherent::Coherent;
-use models::model::Model;
+use models::model::MemoryModel;
 use models::pram::Pram;
 use models::sequential::Sequential;
 use search::tables::Tables;
@@ -14,7 +16,7 @@ use trace_file::reader::read;
 const NANOS: u64 = 200_000_000;
 
 // Prints the verdict, and the time of one search by tables that are filled already.
-fn measure<M: Model>(rt: &HostRuntime, model: &M, table: &Table) -> anyhow::Result<()> {
+fn measure<M: MemoryModel>(rt: &HostRuntime, model: &M, table: &Table) -> anyhow::Result<()> {
     let tables = Tables::of(model, table);
     let mut legal = false;
     let mut nanos = 0;

@@ -1,7 +1,7 @@
 //! A model of this crate's own: 16 views, each of all operations, in program order.
 ghost use Rattle.search_cases.specs.Everywhere.{everywhere, everywhere_laws};
 
-use models::model::Model;
+use models::model::MemoryModel;
 use models::sequential::Sequential;
 use trace::table::Table;
 
@@ -9,7 +9,7 @@ use trace::table::Table;
 #[derive(Clone, Copy)]
 pub struct Everywhere;
 
-pub impl Model for Everywhere as EverywhereModel {
+impl MemoryModel for Everywhere {
     ghost meaning = { λ _. everywhere };
 
     ghost laws = { λ _. everywhere_laws };

@@ -1,11 +1,13 @@
 //! The first orders of worked traces under each model; what is expected stands in `stdout`.
+#![tactic(auto)]
+
 mod everywhere;
 mod traces;
 
 use crate::everywhere::Everywhere;
 use models::agreement::Agreement;
 use models::coherent::Coherent;
-use models::model::Model;
+use models::model::MemoryModel;
 use models::pram::Pram;
 use models::sequential::Sequential;
 use models::write_into::WriteInto;
@@ -14,7 +16,7 @@ use std::io;
 use trace::table::Table;
 
 // Prints the list of each view, up to the first number that is no view's.
-fn show<M: Model>(rt: &HostRuntime, title: &str, model: &M, table: &Table) -> io::Result<()> {
+fn show<M: MemoryModel>(rt: &HostRuntime, title: &str, model: &M, table: &Table) -> io::Result<()> {
     let Some(orders) = first_orders(model, table) else {
         return println!(rt; "  {title}: illegal");
     };

@@ -1,4 +1,6 @@
 //! Reads a trace file from standard input and prints what is in it.
+#![tactic(auto)]
+
 ghost use Rattle.std.specs.Prelude.{◌≤◌, IfOk};
 
 use std::io;

@@ -7,7 +7,7 @@ use Rattle.trace.specs.declared.operation.Operation.{Operation}
 use Rattle.trace.specs.Operations.{number, Within, within, capacity}
 use Rattle.trace.specs.Traces.{Trace, processor_count, operation_count, lane_at, empty_trace}
 use Rattle.trace.specs.Calls.{operation, appended, record_refusal}
-use Rattle.trace.proofs.Lanes.{lane-at, empty_count}
+use Rattle.trace.proofs.Lanes.{lane_at_place, empty_count}
 use Rattle.trace_file.specs.Reading.{Progress, going, stopped, record_fault, record_of, entered, read_records, read_sections, read_file, and_then, kind_field, variable_field, source_field, value_field}
 use Rattle.trace_file.proofs.Entering.{long_fault}
 use Rattle.trace_file.proofs.Growing.{tests_passed, tests_processor}
@@ -19,7 +19,7 @@ count_more t s o w =
     omega (
       arith,
       sum_by-set length t.lanes (s - 1) (lane_at t s ++ o ∷ []) [] (omega (arith, w.0, w.1)),
-      ap length (lane-at t s w.0),
+      ap length (lane_at_place t s w.0),
       length_push (lane_at t s) o,
     )
 

@@ -12,7 +12,7 @@ use Rattle.trace.specs.Calls.{operation, appended, record_refusal}
 use Rattle.trace.proofs.Accepting.{unfailed, none_failed}
 use Rattle.trace.proofs.Fits.{fits_push, fits_set, fits_at}
 use Rattle.trace.proofs.Forming.{decides_lanes, decides_within}
-use Rattle.trace.proofs.Lanes.{lane-at}
+use Rattle.trace.proofs.Lanes.{lane_at_place}
 use Rattle.trace.proofs.Numbers.{number_back}
 use Rattle.trace_file.specs.FirstFaults.{told}
 
@@ -39,7 +39,7 @@ module _ (v : ℕ) (whole : List (List Operation)) (lane : List Operation) (empt
   pub begun_lane : lane_at (told v whole lane empty) (length whole + 1) ≡ lane
   begun_lane =
       let e : length whole + 1 - 1 ≡ length whole = omega arith in
-      lane-at (told v whole lane empty) (length whole + 1) (omega arith)
+      lane_at_place (told v whole lane empty) (length whole + 1) (omega arith)
       ∙ ap (λ i. get_or (whole ++ lane ∷ replicate empty []) i []) e
       ∙ get_or_at whole lane (replicate empty []) [] (length whole) refl
 

@@ -6,12 +6,12 @@ ghost use Rattle.trace_file.specs.Made.{change_answer, changed};
 ghost use Rattle.judge.specs.States.{state_of, fresh, replaced};
 
 use crate::judging::Judge;
-use models::model::Model;
+use models::model::MemoryModel;
 use trace::table::Table;
 use trace_file::changes::Change;
 use trace_file::reader::load;
 
-impl<M: Model> Judge<M> {
+impl<M: MemoryModel> Judge<M> {
     /// Makes a judge of one processor, one variable and no operations, on which no verdict stands.
     pub fn new(model: M) -> Judge<M>
         ensures state { state_of result ≡ fresh }

@@ -4,12 +4,12 @@ ghost use Rattle.judge.specs.States.{state_of, Plays};
 
 use crate::calls::{Call, Played};
 use crate::judging::Judge;
-use models::model::Model;
+use models::model::MemoryModel;
 
-impl<M: Model> Judge<M> {
+impl<M: MemoryModel> Judge<M> {
     /// Plays a call, and gives its answer with all that the call handed in as it was left.
     pub fn play(&mut self, mut call: Call) -> Played
-        ensures played { Plays (M.Model.meaning self.old.model) (state_of self.old) call result (state_of self.new) }
+        ensures played { Plays (M.MemoryModel.meaning self.old.model) (state_of self.old) call result (state_of self.new) }
         ensures model { self.new.model ≡ self.old.model }
     {
         let (refusal, value) = match &mut call {

@@ -5,7 +5,7 @@ ghost use Rattle.trace_file.specs.Writing.{save_answer, save_after};
 ghost use Rattle.judge.specs.States.{state_of, Judging, not_shown_number, Showing};
 
 use crate::judging::Judge;
-use models::model::Model;
+use models::model::MemoryModel;
 use orders::inspection::inspect;
 use search::first::first_orders;
 use search::found::NotShown;
@@ -21,10 +21,10 @@ fn refusal_of(why: NotShown) -> u8
     }
 }
 
-impl<M: Model> Judge<M> {
+impl<M: MemoryModel> Judge<M> {
     /// Judges the trace: 1 where it is legal, and then that verdict stands; 0 where it is illegal.
     pub fn judge(&mut self) -> (u8, u16)
-        ensures verdict { Judging (M.Model.meaning self.old.model) (state_of self.old) result (state_of self.new) }
+        ensures verdict { Judging (M.MemoryModel.meaning self.old.model) (state_of self.old) result (state_of self.new) }
         ensures model { self.new.model ≡ self.old.model }
     {
         let (refusal, place) = self.table.completeness();
@@ -53,8 +53,8 @@ impl<M: Model> Judge<M> {
 
     /// Inspects orders in writing, and answers what is found.
     pub fn inspect(&self, numbers: &[u16]) -> (u8, u16)
-        ensures answer { Inspected (M.Model.meaning self.now.model) (state_of self.now).trace numbers.now result }
-        ensures one { (other : ℕ × ℕ) → Inspected (M.Model.meaning self.now.model) (state_of self.now).trace numbers.now other → other ≡ result }
+        ensures answer { Inspected (M.MemoryModel.meaning self.now.model) (state_of self.now).trace numbers.now result }
+        ensures one { (other : ℕ × ℕ) → Inspected (M.MemoryModel.meaning self.now.model) (state_of self.now).trace numbers.now other → other ≡ result }
     {
         inspect(&self.model, &self.table, numbers)
     }

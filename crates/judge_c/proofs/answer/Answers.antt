@@ -10,4 +10,4 @@ pub returns : goal.returns
 returns g c =
     let same = c.load-refusal.ensures.model ∙ c.new-judge.ensures.model in
     answers_judged _ _ _ c.load-refusal.ensures.answer _ _ (state_of c.load-refusal.new.self) (state_of c.judge-refusal.new.self) c.judge-refusal.result c.new-judge.ensures.state c.if-refusal-ne0.false c.load-refusal.ensures.after
-    (subst (λ z. Judging (g.M.Model.meaning z) (state_of c.load-refusal.new.self) c.judge-refusal.result (state_of c.judge-refusal.new.self)) same c.judge-refusal.ensures.verdict) c.one-number-2.ensures
+    (subst (λ z. Judging (g.M.MemoryModel.meaning z) (state_of c.load-refusal.new.self) c.judge-refusal.result (state_of c.judge-refusal.new.self)) same c.judge-refusal.ensures.verdict) c.one-number-2.ensures

@@ -7,14 +7,14 @@ ghost use Rattle.search.specs.Filling.{Held, Listing};
 ghost use Rattle.search.specs.Tables.{Tabled};
 
 use crate::tables::Tables;
-use models::model::Model;
+use models::model::MemoryModel;
 use opset::OpSet;
 use ranks::listing::Ranks;
 use trace::operation::{Kind, Operation};
 use trace::table::Table;
 
 // The sets that the first views hold.
-fn held_by_views<M: Model>(model: &M, table: &Table, views: usize) -> [OpSet; 16]
+fn held_by_views<M: MemoryModel>(model: &M, table: &Table, views: usize) -> [OpSet; 16]
     requires { views ≤ 16 }
     ensures { Held (meaning model.now) (trace_of table.now) views result }
 {
@@ -47,7 +47,7 @@ fn operations_by_rank(table: &Table, ranks: &Ranks) -> [Operation; 64]
 
 impl Tables {
     /// Makes the tables of a trace under a model.
-    pub fn of<M: Model>(model: &M, table: &Table) -> Tables
+    pub fn of<M: MemoryModel>(model: &M, table: &Table) -> Tables
         ensures { Tabled (meaning model.now) (trace_of table.now) result }
     {
         let ranks = Ranks::of(table);

@@ -8,4 +8,4 @@ abbrev pub invariant-loop-call : goal.invariant-loop-call
 invariant-loop-call g l =
     (into_iter_items l.initial.call-iterator ≡ l.yielded ++ into_iter_items l.call-iterator)
     × (l.judge.model ≡ l.initial.judge.model)
-    × Going (g.M.Model.meaning l.initial.judge.model) l.yielded (vec_items l.answers) (state_of l.judge)
+    × Going (g.M.MemoryModel.meaning l.initial.judge.model) l.yielded (vec_items l.answers) (state_of l.judge)

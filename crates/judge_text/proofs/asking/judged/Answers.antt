@@ -7,10 +7,10 @@ use Rattle.judge_text.proofs.asking.judged.Goals as goal
 
 pub returns : goal.returns
 returns g c =
-    let m = g.M.Model.meaning c.args.model in
+    let m = g.M.MemoryModel.meaning c.args.model in
     let file = c.args.file.now in
     let told =
-    answers_told m (g.M.Model.laws c.args.model) file (λ k. (c.type-inv.file k).fits) (vec_items c.in-ok-calls.field-0) (vec_items c.in-ok-answers.answers)
+    answers_told m (g.M.MemoryModel.laws c.args.model) file (λ k. (c.type_inv.file k).fits) (vec_items c.in-ok-calls.field-0) (vec_items c.in-ok-answers.answers)
     c.in-ok-calls.ensures c.in-ok-answers.ensures in
     IfOk-weaker c.answers-text.result (λ s. string_bytes s ≡ answers_text c.as-slice.result.now) (λ s. FileTold m file (string_bytes s))
     (λ s e. subst (FileTold m file) (sym (e ∙ ap answers_text c.as-slice.ensures.value)) told)

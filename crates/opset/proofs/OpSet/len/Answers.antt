@@ -15,5 +15,5 @@ returns c =
       listed = λ list h. sym (size_listed s list h);
     }
 
-pub overflow-cast-result : goal.overflow-cast-result
-overflow-cast-result c = omega (arith, ones-le 64 c.args.self.0 (omega arith))
+pub overflow_cast-result : goal.overflow_cast-result
+overflow_cast-result c = omega (arith, ones-le 64 c.args.self.0 (omega arith))

@@ -8,7 +8,7 @@ pub returns-then-not-has-all : goal.returns-then-not-has-all
 returns-then-not-has-all g c = (
   λ b. absurd (false≢true b),
   λ e. absurd (
-      agrees_fails _ (g.M.Model.laws c.args.model.now) _ c.of-ranks.ensures.facts c.of-ranks.result c.of-ranks.ensures.value _ c.len-rank-end.ensures.value _ _ _ _ c.loop-rank-test.true c.loop-rank.invariant
+      agrees_fails _ (g.M.MemoryModel.laws c.args.model.now) _ c.of-ranks.ensures.facts c.of-ranks.result c.of-ranks.ensures.value _ c.len-rank-end.ensures.value _ _ _ _ c.loop-rank-test.true c.loop-rank.invariant
       c.held-held.result c.held-held.ensures _ _ _ c.alike-rows-alike.ensures c.earlier-rows-wanted.ensures c.earlier-rows-earlier.ensures c.intersection.result c.intersection-partners.result c.intersection.ensures c.intersection-partners.ensures
       (sym c.contains.ensures.answer ∙ c.if-contains.true) _ c.has-all.ensures c.if-not-has-all.true e
       ),
@@ -18,13 +18,13 @@ pub loop-rank-preserved : goal.loop-rank-preserved
 loop-rank-preserved g c =
     elim c.else-contains.branch [
       | else-contains-via-then-contains+else-not-has-all w ↦
-          agrees_again _ (g.M.Model.laws c.args.model.now) _ c.of-ranks.ensures.facts c.of-ranks.result c.of-ranks.ensures.value _ c.len-rank-end.ensures.value _ _ _ _ c.loop-rank-test.true c.loop-rank.invariant
+          agrees_again _ (g.M.MemoryModel.laws c.args.model.now) _ c.of-ranks.ensures.facts c.of-ranks.result c.of-ranks.ensures.value _ c.len-rank-end.ensures.value _ _ _ _ c.loop-rank-test.true c.loop-rank.invariant
           c.held-held.result c.held-held.ensures _ _ _ c.alike-rows-alike.ensures c.earlier-rows-wanted.ensures c.earlier-rows-earlier.ensures c.intersection.result c.intersection-partners.result c.intersection.ensures c.intersection-partners.ensures
           (sym c.contains.ensures.answer ∙ w.if-contains.true) _ w.has-all.ensures w.if-not-has-all.false
       | else-contains-via-else-contains w ↦
-          agrees_unheld _ (g.M.Model.laws c.args.model.now) _ c.of-ranks.ensures.facts c.of-ranks.result c.of-ranks.ensures.value _ c.len-rank-end.ensures.value _ _ _ _ c.loop-rank-test.true c.loop-rank.invariant
+          agrees_unheld _ (g.M.MemoryModel.laws c.args.model.now) _ c.of-ranks.ensures.facts c.of-ranks.result c.of-ranks.ensures.value _ c.len-rank-end.ensures.value _ _ _ _ c.loop-rank-test.true c.loop-rank.invariant
           c.held-held.result c.held-held.ensures (sym c.contains.ensures.answer ∙ w.if-contains.false)
     ]
 
 pub returns : goal.returns
-returns g c = (λ _. agrees_all _ (g.M.Model.laws c.args.model.now) _ c.of-ranks.ensures.facts c.of-ranks.result c.of-ranks.ensures.value _ c.len-rank-end.ensures.value _ _ _ _ c.loop-rank-test.false c.loop-rank.invariant, λ _. refl)
+returns g c = (λ _. agrees_all _ (g.M.MemoryModel.laws c.args.model.now) _ c.of-ranks.ensures.facts c.of-ranks.result c.of-ranks.ensures.value _ c.len-rank-end.ensures.value _ _ _ _ c.loop-rank-test.false c.loop-rank.invariant, λ _. refl)

@@ -13,7 +13,7 @@ pub returns-then-not-has-all : goal.returns-then-not-has-all
 returns-then-not-has-all g c = (
   λ b. absurd (false≢true b),
   λ e. absurd (
-      ordered_fails _ (g.M.Model.laws c.args.model.now) _ c.of-ranks.ensures.facts c.of-ranks.result c.of-ranks.ensures.value _ _ _ _ c.loop-number-test.true c.loop-number.invariant
+      ordered_fails _ (g.M.MemoryModel.laws c.args.model.now) _ c.of-ranks.ensures.facts c.of-ranks.result c.of-ranks.ensures.value _ _ _ _ c.loop-number-test.true c.loop-number.invariant
       c.held-held.result c.before-rows-before.result c.intersection.result c.in-Some.rank c.held-held.ensures c.before-rows-before.ensures c.in-Some.ensures c.intersection.ensures c.has-all.result c.has-all.ensures c.if-not-has-all.true e
       ),
 )
@@ -22,12 +22,12 @@ pub loop-number-preserved : goal.loop-number-preserved
 loop-number-preserved g c =
     elim c.match-rank.branch [
       | in-Some+else-not-has-all w ↦
-          ordered_again _ (g.M.Model.laws c.args.model.now) _ c.of-ranks.ensures.facts c.of-ranks.result c.of-ranks.ensures.value _ _ _ _ c.loop-number-test.true c.loop-number.invariant
+          ordered_again _ (g.M.MemoryModel.laws c.args.model.now) _ c.of-ranks.ensures.facts c.of-ranks.result c.of-ranks.ensures.value _ _ _ _ c.loop-number-test.true c.loop-number.invariant
           c.held-held.result c.before-rows-before.result w.intersection.result w.in-Some.rank c.held-held.ensures c.before-rows-before.ensures w.in-Some.ensures w.intersection.ensures w.has-all.result w.has-all.ensures w.if-not-has-all.false
           c.match-rank.seen (λ j. ap (λ z. has z j) w.seen-is ∙ w.with-seen.ensures.holds j)
       | in-default w ↦
           subst (UpTo _ _ _ _) (sym w.seen-is)
-          (ordered_skips _ (g.M.Model.laws c.args.model.now) _ c.of-ranks.ensures.facts c.of-ranks.result c.of-ranks.ensures.value _ _ _ _ c.loop-number-test.true c.loop-number.invariant w.in-default.ensures)
+          (ordered_skips _ (g.M.MemoryModel.laws c.args.model.now) _ c.of-ranks.ensures.facts c.of-ranks.result c.of-ranks.ensures.value _ _ _ _ c.loop-number-test.true c.loop-number.invariant w.in-default.ensures)
     ]
 
 pub returns : goal.returns

@@ -5,8 +5,8 @@ use Rattle.orders.proofs.inspection.inspect.Goals as goal
 
 pub returns-then-refusal-ne0 : goal.returns-then-refusal-ne0
 returns-then-refusal-ne0 g c =
-    let m = g.M.Model.meaning c.args.model.now in
-    let laws = g.M.Model.laws c.args.model.now in
+    let m = g.M.MemoryModel.meaning c.args.model.now in
+    let laws = g.M.MemoryModel.laws c.args.model.now in
     let t = trace_of c.args.table.now in
     let formed = well_formed c.args.table.now in
     let numbers = c.args.numbers.now in
@@ -20,8 +20,8 @@ returns-then-refusal-ne0 g c =
 
 pub returns : goal.returns
 returns g c =
-    let m = g.M.Model.meaning c.args.model.now in
-    let laws = g.M.Model.laws c.args.model.now in
+    let m = g.M.MemoryModel.meaning c.args.model.now in
+    let laws = g.M.MemoryModel.laws c.args.model.now in
     let t = trace_of c.args.table.now in
     let formed = well_formed c.args.table.now in
     let numbers = c.args.numbers.now in

@@ -14,23 +14,23 @@ returns-in-0-default c =
     let long : 8 ≤ length b = search rules in
     let zero : c.record.result.0 ≡ 0 = omega arith in
     let answer : c.record.result ≡ record_answer t s (kind_field b) (variable_field b) (source_field b) =
-    c.record.ensures.answer ∙ ap (record_answer t s (kind_field b) (variable_field b)) c.from-be-bytes-source.ensures in
+    c.record.ensures.answer ∙ ap (record_answer t s (kind_field b) (variable_field b)) c.from_be_bytes-source.ensures in
     let fault = fault_told t s b long c.record.result answer ∙ zero in
     record {
       fault = fault;
       left = take_rest b 8;
       trace = entered_after t s b (trace_of c.record.new.self) long fault
-          (c.record.ensures.after ∙ (λ i. record_after t s (kind_field b) (variable_field b) (c.from-be-bytes-source.ensures i) (c.from-be-bytes-value.ensures i)));
+          (c.record.ensures.after ∙ (λ i. record_after t s (kind_field b) (variable_field b) (c.from_be_bytes-source.ensures i) (c.from_be_bytes-value.ensures i)));
     }
 
-pub returns-in-default-record : goal.returns-in-default-record
-returns-in-default-record c =
+pub returns-in_default-record : goal.returns-in_default-record
+returns-in_default-record c =
     let b = c.args.bytes.now in
     let t = trace_of c.args.table.now in
     let s = c.args.section in
     let long : 8 ≤ length b = search rules in
     let answer : c.record.result ≡ record_answer t s (kind_field b) (variable_field b) (source_field b) =
-    c.record.ensures.answer ∙ ap (record_answer t s (kind_field b) (variable_field b)) c.from-be-bytes-source.ensures in
+    c.record.ensures.answer ∙ ap (record_answer t s (kind_field b) (variable_field b)) c.from_be_bytes-source.ensures in
     let told = fault_told t s b long c.record.result answer in
     let r = c.record.result.0 in
     let other = full_else t s (kind_field b) (variable_field b) (source_field b) c.requires (record_fault t s b) (long_fault t s b long) in

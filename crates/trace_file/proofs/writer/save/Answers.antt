@@ -4,14 +4,14 @@ use lib.Seq.{paste}
 use Rattle.trace.specs.Tables.{trace_of}
 use Rattle.trace.specs.Traces.{Trace, lane_at, processor_count}
 use Rattle.trace.proofs.Forming.{well_formed}
-use Rattle.trace.proofs.Lanes.{lane-at, lane_within, processors_are}
+use Rattle.trace.proofs.Lanes.{lane_at_place, lane_within, processors_are}
 use Rattle.trace_file.specs.Files.{section_bytes, file_of}
 use Rattle.trace_file.proofs.Back.{read_back}
 use Rattle.trace_file.proofs.Lengths.{file_length, pasting_starts, pasting_room, pasting_again, pasting_ends, headed, saved_none, saved_all}
 use Rattle.trace_file.proofs.writer.save.Goals as goal
 
 lane_next : (t : Trace) (b : ℕ) → lane_at t (b + 1) ≡ get_or t.lanes b []
-lane_next t b = let e : b + 1 - 1 ≡ b = omega arith in lane-at t (b + 1) (omega arith) ∙ ap (λ i. get_or t.lanes i []) e
+lane_next t b = let e : b + 1 - 1 ≡ b = omega arith in lane_at_place t (b + 1) (omega arith) ∙ ap (λ i. get_or t.lanes i []) e
 
 pub returns-then-bytes-size : goal.returns-then-bytes-size
 returns-then-bytes-size c =
@@ -27,8 +27,8 @@ loop-before-init c =
     pasting_starts section_bytes (trace_of t).lanes _ _
     (omega (arith, n, c.processors.ensures, c.total.ensures.value, c.put-next.ensures.next, c.put-next.auto.bytes, c.if-bytes-size.false))
 
-pub write-section-next-requires : goal.write-section-next-requires
-write-section-next-requires c =
+pub write_section-next-requires : goal.write_section-next-requires
+write_section-next-requires c =
     let t = c.args.table.now in
     let b = c.loop-before.before in
     let here : b < processor_count (trace_of t) = omega (arith, c.loop-before-test.true, c.processors-before-end.ensures) in
@@ -48,8 +48,8 @@ loop-before-preserved c =
     let here : b < processor_count (trace_of t) = omega (arith, c.loop-before-test.true, c.processors-before-end.ensures) in
     let e = c.lane.ensures ∙ lane_next (trace_of t) b in
     pasting_again section_bytes (trace_of t).lanes _ _ _ _ _ c.loop-before.invariant [] _ _ here
-    (c.write-section-next.ensures.after ∙ ap (λ l. paste c.loop-before.bytes c.loop-before.next (section_bytes l) (length (section_bytes l))) e)
-    (c.write-section-next.ensures.next ∙ ap (λ l. c.loop-before.next + length (section_bytes l)) e)
+    (c.write_section-next.ensures.after ∙ ap (λ l. paste c.loop-before.bytes c.loop-before.next (section_bytes l) (length (section_bytes l))) e)
+    (c.write_section-next.ensures.next ∙ ap (λ l. c.loop-before.next + length (section_bytes l)) e)
 
 pub returns : goal.returns
 returns c =

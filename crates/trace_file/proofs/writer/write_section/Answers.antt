@@ -17,12 +17,12 @@ loop-operation-init c = pasting_starts record_bytes c.args.lane.now _ _ (omega a
 pub put-next-requires-in-loop-operation : goal.put-next-requires-in-loop-operation
 unfolding unused
 put-next-requires-in-loop-operation c =
-    subst (λ p. c.loop-operation.next + length p ≤ length c.loop-operation.bytes) (sym c.record-bytes.ensures)
+    subst (λ p. c.loop-operation.next + length p ≤ length c.loop-operation.bytes) (sym c.record_bytes.ensures)
     (pasting_room record_bytes c.args.lane.now _ _ _ _ _ c.loop-operation.invariant unused c.loop-operation-test.true)
 
 pub loop-operation-preserved : goal.loop-operation-preserved
 loop-operation-preserved c =
-    let e = c.record-bytes.ensures in
+    let e = c.record_bytes.ensures in
     pasting_again record_bytes c.args.lane.now _ _ _ _ _ c.loop-operation.invariant _ _ _ c.loop-operation-test.true
     (c.put-next-in-loop-operation.ensures.after ∙ ap (λ p. paste c.loop-operation.bytes c.loop-operation.next p (length p)) e)
     (c.put-next-in-loop-operation.ensures.next ∙ ap (λ p. c.loop-operation.next + length p) e)

@@ -8,7 +8,7 @@ returns-then-refusal-ne0 g c =
     let judge = c.args.self.now in
     let complete = c.completeness-refusal in
     record {
-      verdict = judging_refused (g.M.Model.meaning judge.model) (state_of judge) complete.result complete.ensures.complete complete.ensures.answer c.if-refusal-ne0.true;
+      verdict = judging_refused (g.M.MemoryModel.meaning judge.model) (state_of judge) complete.result complete.ensures.complete complete.ensures.answer c.if-refusal-ne0.true;
       model = refl;
     }
 
@@ -17,7 +17,7 @@ returns-in-Some g c =
     let judge = c.args.self.now in
     let complete = c.completeness-refusal in
     record {
-      verdict = judging_legal (g.M.Model.meaning judge.model) (state_of judge) complete.result complete.ensures.complete c.if-refusal-ne0.false c.first-orders-self.result c.first-orders-self.ensures c.in-Some.field-0 c.in-Some.is;
+      verdict = judging_legal (g.M.MemoryModel.meaning judge.model) (state_of judge) complete.result complete.ensures.complete c.if-refusal-ne0.false c.first-orders-self.result c.first-orders-self.ensures c.in-Some.field-0 c.in-Some.is;
       model = refl;
     }
 
@@ -26,6 +26,6 @@ returns-in-None g c =
     let judge = c.args.self.now in
     let complete = c.completeness-refusal in
     record {
-      verdict = judging_illegal (g.M.Model.meaning judge.model) (state_of judge) complete.result complete.ensures.complete c.if-refusal-ne0.false c.first-orders-self.result c.first-orders-self.ensures c.in-None.is;
+      verdict = judging_illegal (g.M.MemoryModel.meaning judge.model) (state_of judge) complete.result complete.ensures.complete c.if-refusal-ne0.false c.first-orders-self.result c.first-orders-self.ensures c.in-None.is;
       model = refl;
     }

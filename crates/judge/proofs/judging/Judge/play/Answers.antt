@@ -12,7 +12,7 @@ use Rattle.judge.proofs.judging.Judge.play.Goals.{in-Change, in-Judge, in-View, 
 pub returns : goal.returns
 returns g c =
     let judge = c.args.self.now in
-    let m = g.M.Model.meaning judge.model in
+    let m = g.M.MemoryModel.meaning judge.model in
     let s = state_of judge in
     let u = state_of c.match-call.self in
     let given = c.args.call in

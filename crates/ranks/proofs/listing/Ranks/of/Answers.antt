@@ -6,7 +6,7 @@ use Rattle.trace.proofs.Forming.{well_formed}
 use Rattle.ranks.specs.Numbers.{numbers_from, numbers}
 use Rattle.ranks.proofs.Facts.{facts, here_next, none_next}
 use Rattle.ranks.proofs.listing.Ranks.of.Goals as goal
-use Rattle.ranks.proofs.listing.Ranks.of.Goals.{Then-is-some, then-is-some, else-is-some}
+use Rattle.ranks.proofs.listing.Ranks.of.Goals.{Then-is_some, then-is_some, else-is_some}
 
 -- one more number, and there is room for it
 module _ (t : Trace) (few : operation_count t ≤ 64) (count : ℕ) (list : List ℕ) (long : length list ≡ 64) (fits : count ≤ 64) (i end : ℕ) (h : i < end) (all : take count list ++ numbers_from t i (end - i) ≡ numbers t) where
@@ -32,14 +32,14 @@ loop-number-init c =
     (refl, omega arith, ap (numbers_from (trace_of c.args.table.now) 101) e)
 
 -- there is room where an operation is found
-below : (c : Then-is-some) → c.loop-number.count < 64
+below : (c : Then-is_some) → c.loop-number.count < 64
 below c =
     let t = c.args.table.now in
     let v = c.loop-number.invariant in
-    room (trace_of t) (well_formed t).few _ _ v.0 v.1 _ _ c.loop-number-test.true v.2 (sym (c.if-is-some.ensures ∙ ap is_some c.operation.ensures))
+    room (trace_of t) (well_formed t).few _ _ v.0 v.1 _ _ c.loop-number-test.true v.2 (sym (c.if-is_some.ensures ∙ ap is_some c.operation.ensures))
 
-pub offset-bounds-numbers-count : goal.offset-bounds-numbers-count
-offset-bounds-numbers-count c = let h = below c in search rules
+pub offset_bounds-numbers-count : goal.offset_bounds-numbers-count
+offset_bounds-numbers-count c = let h = below c in search rules
 
 pub bounds-numbers-count : goal.bounds-numbers-count
 bounds-numbers-count c = let h = below c in search rules
@@ -51,17 +51,17 @@ loop-number-preserved c =
     let i = c.loop-number.number in
     let end = 101 + 100 * c.from.result in
     let rest = numbers_from (trace_of t) (i + 1) (end - (i + 1)) in
-    elim c.if-is-some.branch [
-      | then-is-some w ↦
-          let e : There (trace_of t) i = sym (w.if-is-some.ensures ∙ ap is_some c.operation.ensures) in
+    elim c.if-is_some.branch [
+      | then-is_some w ↦
+          let e : There (trace_of t) i = sym (w.if-is_some.ensures ∙ ap is_some c.operation.ensures) in
           let r = room (trace_of t) (well_formed t).few _ _ v.0 v.1 _ _ c.loop-number-test.true v.2 e in (
             ap length w.numbers-is ∙ length-set c.loop-number.numbers c.loop-number.count i ∙ v.0,
             omega (arith, w.count-is, r),
             (λ j. take (w.count-is j) (w.numbers-is j) ++ rest)
                 ∙ listed_more (trace_of t) (well_formed t).few _ _ v.0 v.1 _ _ c.loop-number-test.true v.2 e,
           )
-      | else-is-some w ↦
-          let e : is_some (operation_at (trace_of t) i) ≡ false = sym (w.if-is-some.ensures ∙ ap is_some c.operation.ensures) in (
+      | else-is_some w ↦
+          let e : is_some (operation_at (trace_of t) i) ≡ false = sym (w.if-is_some.ensures ∙ ap is_some c.operation.ensures) in (
             ap length w.numbers-is ∙ v.0,
             omega (arith, w.count-is, v.1),
             (λ j. take (w.count-is j) (w.numbers-is j) ++ rest)

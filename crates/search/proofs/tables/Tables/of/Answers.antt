@@ -7,7 +7,7 @@ use Rattle.search.proofs.tables.Tables.of.Goals.{After-views-views}
 few : (g : _) (c : After-views-views g) → c.views-views.result ≤ 16
 few g c =
     let good = well_formed c.args.table.now in
-    omega (arith, c.views-views.ensures, (g.M.Model.laws c.args.model.now).few c.processors.result c.variables.result (subst (Within 1 8) (sym c.processors.ensures) good.processors) (subst (Within 1 16) (sym c.variables.ensures) good.variables))
+    omega (arith, c.views-views.ensures, (g.M.MemoryModel.laws c.args.model.now).few c.processors.result c.variables.result (subst (Within 1 8) (sym c.processors.ensures) good.processors) (subst (Within 1 16) (sym c.variables.ensures) good.variables))
 
 pub held-by-views-requires : goal.held-by-views-requires
 held-by-views-requires g c = few g c

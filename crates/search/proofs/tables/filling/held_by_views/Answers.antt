@@ -10,7 +10,7 @@ loop-view-init g c = held_none _ _ c.empty-held.result c.empty-held.ensures
 
 pub loop-view-preserved : goal.loop-view-preserved
 loop-view-preserved g c =
-    let m = g.M.Model.meaning c.args.model.now in
+    let m = g.M.MemoryModel.meaning c.args.model.now in
     let t = trace_of c.args.table.now in
     let next : c.loop-view.view + 1 ≡ suc c.loop-view.view = omega arith in
     let word : c.held.result.0 < 2 ^ 64 = omega arith in

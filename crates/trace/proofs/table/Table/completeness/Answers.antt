@@ -16,14 +16,14 @@ pub returns-then-refusal-ne0 : goal.returns-then-refusal-ne0
 returns-then-refusal-ne0 c =
     let t = trace_of c.args.self.now in
     let i = c.loop-number.number in
-    let r = c.refusal-at-refusal.ensures in
-    let a : ◌≡◌ {A = ℕ × ℕ} (c.refusal-at-refusal.result, i) (completeness_answer t) =
+    let r = c.refusal_at-refusal.ensures in
+    let a : ◌≡◌ {A = ℕ × ℕ} (c.refusal_at-refusal.result, i) (completeness_answer t) =
     ap (λ n. (n, i)) r ∙ sym (first_stop t i _ c.loop-number-test.true (λ z. c.if-refusal-ne0.true (r ∙ z))) ∙ c.loop-number.invariant in
     record { answer = a; complete = decides_complete t _ a; first = first_unfit t _ a }
 
 pub loop-number-preserved : goal.loop-number-preserved
 loop-number-preserved c =
-    sym (first_skip (trace_of c.args.self.now) c.loop-number.number _ c.loop-number-test.true (sym c.refusal-at-refusal.ensures ∙ c.if-refusal-ne0.false))
+    sym (first_skip (trace_of c.args.self.now) c.loop-number.number _ c.loop-number-test.true (sym c.refusal_at-refusal.ensures ∙ c.if-refusal-ne0.false))
     ∙ c.loop-number.invariant
 
 pub returns : goal.returns

@@ -10,8 +10,8 @@ use Rattle.trace.proofs.Fits.{fits_take}
 use Rattle.trace.proofs.Lanes.{processors_are, lane_is, lane_within, lane_fit}
 use Rattle.trace.proofs.table.Table.strike.Goals as goal
 
-pub returns-then-not-has-processor : goal.returns-then-not-has-processor
-returns-then-not-has-processor c =
+pub returns-then-not-has_processor : goal.returns-then-not-has_processor
+returns-then-not-has_processor c =
     let e = processors_are c.args.self.now in
     record { answer = grind (arith, nat_tests); after = grind (arith, nat_tests) }
 
@@ -19,14 +19,14 @@ pub returns-then-position-eq0 : goal.returns-then-position-eq0
 returns-then-position-eq0 c =
     let t = c.args.self.now in
     let e = processors_are t in
-    let h = c.if-not-has-processor.ensures.bounds in
+    let h = c.if-not-has_processor.ensures.bounds in
     let l = ap length (lane_is t c.args.processor h.0 h.1 c.index-self-processor.result) in
     record { answer = grind (arith, nat_tests); after = grind (arith, nat_tests) }
 
-pub overflow-sub-self : goal.overflow-sub-self
-overflow-sub-self c =
+pub overflow_sub-self : goal.overflow_sub-self
+overflow_sub-self c =
     let t = c.args.self.now in
-    let h = c.if-not-has-processor.ensures.bounds in
+    let h = c.if-not-has_processor.ensures.bounds in
     let l = ap length (lane_is t c.args.processor h.0 h.1 c.index-self-processor.result) in
     omega (arith, lane_within t c.args.processor h.0 h.1)
 
@@ -34,7 +34,7 @@ pub put-requires : goal.put-requires
 put-requires c =
     let t = c.args.self.now in
     let p = c.args.processor in
-    let h = c.if-not-has-processor.ensures.bounds in
+    let h = c.if-not-has_processor.ensures.bounds in
     let l = lane_is t p h.0 h.1 c.index-self-processor.result in
     let w = lane_within t p h.0 h.1 in
     let old = lane_of (get_or t.lanes (p - 1) c.index-self-processor.result) in
@@ -52,7 +52,7 @@ pub returns : goal.returns
 returns c =
     let t = c.args.self.now in
     let e = processors_are t in
-    let h = c.if-not-has-processor.ensures.bounds in
+    let h = c.if-not-has_processor.ensures.bounds in
     let l = ap length (lane_is t c.args.processor h.0 h.1 c.index-self-processor.result) in
     let free : strike_refusal (trace_of t) c.args.processor ≡ 0 = grind (arith, nat_tests) in
     let same = lane_is t c.args.processor h.0 h.1 c.index-self-processor.result in
