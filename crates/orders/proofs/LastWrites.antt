@@ -4,6 +4,8 @@ use Rattle.std.specs.List.{AllByRecursion as All}
 use Rattle.std.proofs.ByRecursion.{All-push}
 use Rattle.std.proofs.lemmas.List.{append_assoc, take_more}
 use Rattle.std.proofs.lemmas.Bool.{false≢true, both_ways, cases_lt}
+use denote.Enum.Bare.{sameb}
+use Rattle.trace.specs.contracts.operation.Kind.{the_type}
 use Rattle.trace.specs.declared.operation.Kind.{Kind}
 use Rattle.trace.specs.declared.operation.Kind.TheVariants.{Read, Write}
 use Rattle.trace.specs.declared.operation.Operation.{Operation}
@@ -49,6 +51,15 @@ module _ (t : Trace) (v : ℕ) where
 -- the operation, where it is a read, sees its source
 abbrev pub SeesSource : Trace → List ℕ → ℕ → Type 0
 SeesSource t before j = (r : Operation) → Is t j r → is_read r ≡ true → Sees t before r
+
+-- the test of a kind against a read
+pub kind_is_read : (k : Kind) → true ≡ sameb the_type k Read → k ≡ Read
+kind_is_read Read e = refl
+kind_is_read Write e = absurd (false≢true (sym e))
+
+pub kind_is_not_read : (k : Kind) → false ≡ sameb the_type k Read → k ≡ Read → ⊥
+kind_is_not_read Read e same = false≢true e
+kind_is_not_read Write e same = false≢true (ap (λ k. eqb (kind_number k) 1) same)
 
 not_read : (k : Kind) → (k ≡ Read → ⊥) → eqb (kind_number k) 1 ≡ true → ⊥
 not_read Read f e = f refl

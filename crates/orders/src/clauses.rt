@@ -20,7 +20,7 @@ fn has_all(set: OpSet, wanted: OpSet) -> bool
 
 /// Tells whether a list has exactly the operations that a view holds, each once.
 pub fn is_exact<M: MemoryModel>(model: &M, table: &Table, view: u8, list: &[u16]) -> bool
-    ensures { Decides result (Exact (meaning model.now) (trace_of table.now) view list.now) }
+    ensures { Decides result (Exact (M.meaning model.now) (trace_of table.now) view list.now) }
 {
     let ranks = Ranks::of(table);
     let held = model.held(table, view);
@@ -39,7 +39,7 @@ pub fn is_exact<M: MemoryModel>(model: &M, table: &Table, view: u8, list: &[u16]
 
 /// Tells whether all that a view holds, and is required before an operation of a list, stands earlier in the list.
 pub fn is_ordered<M: MemoryModel>(model: &M, table: &Table, view: u8, list: &[u16]) -> bool
-    ensures { Decides result (Ordered (meaning model.now) (trace_of table.now) view list.now) }
+    ensures { Decides result (Ordered (M.meaning model.now) (trace_of table.now) view list.now) }
 {
     let ranks = Ranks::of(table);
     let held = model.held(table, view);
@@ -119,7 +119,7 @@ pub fn is_agreeing<M: MemoryModel>(
     other: &[u16],
     list: &[u16],
 ) -> bool
-    ensures { Decides result (Agrees (meaning model.now) (trace_of table.now) view other.now list.now) }
+    ensures { Decides result (Agrees (M.meaning model.now) (trace_of table.now) view other.now list.now) }
 {
     let ranks = Ranks::of(table);
     let held = model.held(table, view);

@@ -26,7 +26,7 @@ fn split_list<'a>(numbers: &'a [u16]) -> Option<(&'a [u16], &'a [u16])>
 
 // Tells the first of a view's own clauses that its list breaks, if any.
 fn broken_clause<M: MemoryModel>(model: &M, table: &Table, view: u8, list: &[u16]) -> Option<u16>
-    ensures { MatchOption result (Explains (meaning model.now) (trace_of table.now) view list.now) (Fails (meaning model.now) (trace_of table.now) view list.now) }
+    ensures { MatchOption result (Explains (M.meaning model.now) (trace_of table.now) view list.now) (Fails (M.meaning model.now) (trace_of table.now) view list.now) }
 {
     if !is_exact(model, table, view, list) {
         return Some(1);
@@ -47,7 +47,7 @@ fn pass_list<'a, M: MemoryModel>(
     view: u8,
     numbers: &'a [u16],
 ) -> Result<&'a [u16], u16>
-    ensures { Passing (meaning model.now) (trace_of table.now) view numbers.now result }
+    ensures { Passing (M.meaning model.now) (trace_of table.now) view numbers.now result }
 {
     let Some((list, rest)) = split_list(numbers) else {
         return Err(1);
@@ -60,7 +60,7 @@ fn pass_list<'a, M: MemoryModel>(
 
 // Tells how many views the model has of a trace.
 fn views_of<M: MemoryModel>(model: &M, table: &Table) -> u8
-    ensures { result ≡ (meaning model.now).views (processor_count (trace_of table.now)) (trace_of table.now).variables }
+    ensures { result ≡ (M.meaning model.now).views (processor_count (trace_of table.now)) (trace_of table.now).variables }
 {
     model.views(table.processors(), table.variables())
 }
@@ -73,7 +73,7 @@ fn find_other<M: MemoryModel>(
     list: &[u16],
     numbers: &[u16],
 ) -> Option<u8>
-    ensures { (orders : List (List ℕ)) (rest : List ℕ) → numbers.now ≡ written orders ++ rest → view ≤ length orders → MatchOption result (AgreesWithEarlier (meaning model.now) (trace_of table.now) orders view list.now) (DisagreesWith (meaning model.now) (trace_of table.now) orders view list.now) }
+    ensures { (orders : List (List ℕ)) (rest : List ℕ) → numbers.now ≡ written orders ++ rest → view ≤ length orders → MatchOption result (AgreesWithEarlier (M.meaning model.now) (trace_of table.now) orders view list.now) (DisagreesWith (M.meaning model.now) (trace_of table.now) orders view list.now) }
 {
     let mut rest = numbers;
     for other in 1..view {
@@ -88,7 +88,7 @@ fn find_other<M: MemoryModel>(
 
 // Finds the first view whose list, as the numbers have it, does not agree with an earlier view's.
 fn find_disagreeing<M: MemoryModel>(model: &M, table: &Table, numbers: &[u16]) -> Option<u8>
-    ensures { (orders : List (List ℕ)) (rest : List ℕ) → numbers.now ≡ written orders ++ rest → length orders ≡ (meaning model.now).views (processor_count (trace_of table.now)) (trace_of table.now).variables → MatchOption result (AgreeBefore (meaning model.now) (trace_of table.now) orders (suc (length orders))) (Disagrees (meaning model.now) (trace_of table.now) orders) }
+    ensures { (orders : List (List ℕ)) (rest : List ℕ) → numbers.now ≡ written orders ++ rest → length orders ≡ (M.meaning model.now).views (processor_count (trace_of table.now)) (trace_of table.now).variables → MatchOption result (AgreeBefore (M.meaning model.now) (trace_of table.now) orders (suc (length orders))) (Disagrees (M.meaning model.now) (trace_of table.now) orders) }
 {
     let mut rest = numbers;
     for before in 0..views_of(model, table) {
@@ -104,7 +104,7 @@ fn find_disagreeing<M: MemoryModel>(model: &M, table: &Table, numbers: &[u16]) -
 
 // Finds the first thing that is wrong with orders in writing, by its number; 0 where nothing is.
 fn find<M: MemoryModel>(model: &M, table: &Table, numbers: &[u16]) -> u16
-    ensures { Finds (meaning model.now) (trace_of table.now) numbers.now result }
+    ensures { Finds (M.meaning model.now) (trace_of table.now) numbers.now result }
 {
     let mut rest = numbers;
     for before in 0..views_of(model, table) {
@@ -124,10 +124,10 @@ fn find<M: MemoryModel>(model: &M, table: &Table, numbers: &[u16]) -> u16
 ///
 /// Answers 0 and what is found, or a refusal and its place where the trace is not complete.
 pub fn inspect<M: MemoryModel>(model: &M, table: &Table, numbers: &[u16]) -> (u8, u16)
-    ensures answer { Inspected (meaning model.now) (trace_of table.now) numbers.now result }
-    ensures one { (other : ℕ × ℕ) → Inspected (meaning model.now) (trace_of table.now) numbers.now other → other ≡ result }
-    ensures passes { Complete (trace_of table.now) → Decides (result.1 == 0) (Passes (meaning model.now) (trace_of table.now) numbers.now) }
-    ensures fails { Complete (trace_of table.now) → (clause view : ℕ) → 1 ≤ view → view < 100 → result.1 ≡ 100 * clause + view → Failure (meaning model.now) (trace_of table.now) numbers.now clause view }
+    ensures answer { Inspected (M.meaning model.now) (trace_of table.now) numbers.now result }
+    ensures one { (other : ℕ × ℕ) → Inspected (M.meaning model.now) (trace_of table.now) numbers.now other → other ≡ result }
+    ensures passes { Complete (trace_of table.now) → Decides (result.1 == 0) (Passes (M.meaning model.now) (trace_of table.now) numbers.now) }
+    ensures fails { Complete (trace_of table.now) → (clause view : ℕ) → 1 ≤ view → view < 100 → result.1 ≡ 100 * clause + view → Failure (M.meaning model.now) (trace_of table.now) numbers.now clause view }
 {
     let (refusal, place) = table.completeness();
     if refusal != 0 {

@@ -26,7 +26,7 @@ impl Tables {
 
 /// Finds the first of all orders that meet a model on a trace; nothing where there are none.
 pub fn first_orders<M: MemoryModel>(model: &M, table: &Table) -> Option<Orders>
-    ensures { MatchOption result (Legal (meaning model.now) (trace_of table.now) → ⊥) (λ o. First (meaning model.now) (trace_of table.now) (orders_of o)) }
+    ensures { MatchOption result (Legal (M.meaning model.now) (trace_of table.now) → ⊥) (λ o. First (M.meaning model.now) (trace_of table.now) (orders_of o)) }
 {
     Tables::of(model, table).first_orders()
 }

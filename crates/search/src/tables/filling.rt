@@ -16,7 +16,7 @@ use trace::table::Table;
 // The sets that the first views hold.
 fn held_by_views<M: MemoryModel>(model: &M, table: &Table, views: usize) -> [OpSet; 16]
     requires { views ≤ 16 }
-    ensures { Held (meaning model.now) (trace_of table.now) views result }
+    ensures { Held (M.meaning model.now) (trace_of table.now) views result }
 {
     let mut held = [OpSet::empty(); 16];
     for view in 0..views {
@@ -48,7 +48,7 @@ fn operations_by_rank(table: &Table, ranks: &Ranks) -> [Operation; 64]
 impl Tables {
     /// Makes the tables of a trace under a model.
     pub fn of<M: MemoryModel>(model: &M, table: &Table) -> Tables
-        ensures { Tabled (meaning model.now) (trace_of table.now) result }
+        ensures { Tabled (M.meaning model.now) (trace_of table.now) result }
     {
         let ranks = Ranks::of(table);
         let views = model.views(table.processors(), table.variables()) as usize;

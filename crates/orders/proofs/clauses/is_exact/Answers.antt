@@ -7,10 +7,10 @@ use Rattle.orders.proofs.clauses.is_exact.Goals.{then-not-contains-via-then-not-
 pub loop-number-init : goal.loop-number-init
 loop-number-init g c = upto_none _ _ c.of-ranks.ensures.facts _ c.empty-seen.result c.empty-seen.ensures
 
-pub returns-in-default : goal.returns-in-default
-returns-in-default g c = (
+pub returns-in_default : goal.returns-in_default
+returns-in_default g c = (
   λ b. absurd (false≢true b),
-  λ e. absurd (exact_unlisted _ (g.M.MemoryModel.laws c.args.model.now) _ c.of-ranks.ensures.facts c.of-ranks.result c.of-ranks.ensures.value _ _ _ c.loop-number-test.true c.in-default.ensures e),
+  λ e. absurd (exact_unlisted _ (g.M.MemoryModel.laws c.args.model.now) _ c.of-ranks.ensures.facts c.of-ranks.result c.of-ranks.ensures.value _ _ _ c.loop-number-test.true c.in_default.ensures e),
 )
 
 pub returns-then-not-contains : goal.returns-then-not-contains
@@ -33,4 +33,4 @@ loop-number-preserved g c =
 
 pub returns : goal.returns
 returns g c =
-    exact_decides _ (g.M.MemoryModel.laws c.args.model.now) _ c.of-ranks.ensures.facts c.of-ranks.result c.of-ranks.ensures.value _ _ _ _ _ _ c.loop-number-test.false c.loop-number.invariant c.held-held.ensures c.has-all.ensures
+    exact_decides _ (g.M.MemoryModel.laws c.args.model.now) _ c.of-ranks.ensures.facts c.of-ranks.result c.of-ranks.ensures.value _ _ _ _ _ _ c.loop-number-test.false c.loop-number.invariant c.held-held.ensures c.has_all.ensures

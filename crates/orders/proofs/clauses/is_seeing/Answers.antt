@@ -1,17 +1,17 @@
 use Rattle.std.proofs.Common.{sym, refl, ◌∙◌}
 use Rattle.std.proofs.lemmas.Bool.{false≢true}
 use Rattle.orders.proofs.Parting.{each_none, each_all}
-use Rattle.orders.proofs.LastWrites.{SeesSource, seeing_fails, seeing_read, seeing_write, seeing_nothing}
+use Rattle.orders.proofs.LastWrites.{SeesSource, kind_is_read, kind_is_not_read, seeing_fails, seeing_read, seeing_write, seeing_nothing}
 use Rattle.orders.proofs.clauses.is_seeing.Goals as goal
-use Rattle.orders.proofs.clauses.is_seeing.Goals.{in-Some+else-eq, else-eq-via-then-eq+else-operation-last-write, else-eq-via-else-eq, in-default}
+use Rattle.orders.proofs.clauses.is_seeing.Goals.{in-Some+else-eq, else-eq-via-then-eq+else-operation-last_write, else-eq-via-else-eq, in_default}
 
 pub loop-place-init : goal.loop-place-init
 loop-place-init c = each_none _
 
-pub returns-then-operation-last-write : goal.returns-then-operation-last-write
-returns-then-operation-last-write c = (
+pub returns-then-operation-last_write : goal.returns-then-operation-last_write
+returns-then-operation-last_write c = (
   λ b. absurd (false≢true b),
-  λ e. absurd (seeing_fails _ c.args.list.now _ c.loop-place-test.true c.in-Some.operation c.last-write.result (sym c.operation.ensures ∙ c.in-Some.is) c.if-eq.ensures c.last-write.ensures c.if-operation-last-write.true e),
+  λ e. absurd (seeing_fails _ c.args.list.now _ c.loop-place-test.true c.in-Some.operation c.last_write.result (sym c.operation.ensures ∙ c.in-Some.is) (kind_is_read _ c.if-eq.ensures) c.last_write.ensures c.if-operation-last_write.true e),
 )
 
 pub loop-place-preserved : goal.loop-place-preserved
@@ -19,10 +19,10 @@ loop-place-preserved c =
     elim c.match-operation.branch [
       | in-Some+else-eq w ↦
           elim w.else-eq.branch [
-            | else-eq-via-then-eq+else-operation-last-write v ↦ seeing_read _ c.args.list.now _ c.loop-place-test.true c.loop-place.invariant w.in-Some.operation v.last-write.result (sym c.operation.ensures ∙ w.in-Some.is) v.last-write.ensures v.if-operation-last-write.false
-            | else-eq-via-else-eq v ↦ seeing_write _ c.args.list.now _ c.loop-place-test.true c.loop-place.invariant w.in-Some.operation (sym c.operation.ensures ∙ w.in-Some.is) v.if-eq.ensures
+            | else-eq-via-then-eq+else-operation-last_write v ↦ seeing_read _ c.args.list.now _ c.loop-place-test.true c.loop-place.invariant w.in-Some.operation v.last_write.result (sym c.operation.ensures ∙ w.in-Some.is) v.last_write.ensures v.if-operation-last_write.false
+            | else-eq-via-else-eq v ↦ seeing_write _ c.args.list.now _ c.loop-place-test.true c.loop-place.invariant w.in-Some.operation (sym c.operation.ensures ∙ w.in-Some.is) (kind_is_not_read _ v.if-eq.ensures)
           ]
-      | in-default w ↦ seeing_nothing _ c.args.list.now _ c.loop-place-test.true c.loop-place.invariant (sym c.operation.ensures ∙ w.in-default.is)
+      | in_default w ↦ seeing_nothing _ c.args.list.now _ c.loop-place-test.true c.loop-place.invariant (sym c.operation.ensures ∙ w.in_default.is)
     ]
 
 pub returns : goal.returns

@@ -4,16 +4,16 @@ use Rattle.trace.specs.Tables.{trace_of}
 use Rattle.orders.specs.Orders.{LastWrite, none}
 use Rattle.orders.proofs.LastWrites.{last_moves, last_stays}
 use Rattle.orders.proofs.clauses.last_write.Goals as goal
-use Rattle.orders.proofs.clauses.last_write.Goals.{then-is-write-to, else-is-write-to}
+use Rattle.orders.proofs.clauses.last_write.Goals.{then-is_write_to, else-is_write_to}
 
 pub loop-number-init : goal.loop-number-init
 loop-number-init c = none tt
 
 pub loop-number-preserved : goal.loop-number-preserved
 loop-number-preserved c =
-    elim c.if-is-write-to.branch [
-      | then-is-write-to w ↦ last_moves _ _ c.args.list.now _ _ _ _ c.loop-number-test.true c.loop-number.invariant c.is-write-to.ensures w.if-is-write-to.true w.last-is
-      | else-is-write-to w ↦ last_stays _ _ c.args.list.now _ _ _ _ c.loop-number-test.true c.loop-number.invariant c.is-write-to.ensures w.if-is-write-to.false w.last-is
+    elim c.if-is_write_to.branch [
+      | then-is_write_to w ↦ last_moves _ _ c.args.list.now _ _ _ _ c.loop-number-test.true c.loop-number.invariant c.is_write_to.ensures w.if-is_write_to.true w.last-is
+      | else-is_write_to w ↦ last_stays _ _ c.args.list.now _ _ _ _ c.loop-number-test.true c.loop-number.invariant c.is_write_to.ensures w.if-is_write_to.false w.last-is
     ]
 
 pub returns : goal.returns

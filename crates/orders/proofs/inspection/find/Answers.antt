@@ -5,23 +5,23 @@ use Rattle.orders.proofs.inspection.find.Goals as goal
 pub loop-before-init : goal.loop-before-init
 loop-before-init g c = passed_none _ (g.M.MemoryModel.laws c.args.model.now) _ _
 
-pub overflow-mul-result : goal.overflow-mul-result
-overflow-mul-result g c = omega (arith, (few_clauses _ _ _ _ _ c.in-Err.ensures).1)
+pub overflow_mul-result : goal.overflow_mul-result
+overflow_mul-result g c = omega (arith, (few_clauses _ _ _ _ _ c.in-Err.ensures).1)
 
-pub overflow-add-result : goal.overflow-add-result
-overflow-add-result g c = omega (arith, (few_clauses _ _ _ _ _ c.in-Err.ensures).1, c.from.ensures, c.loop-before-test.true, c.views-of-before-end.type_inv)
+pub overflow_add-result : goal.overflow_add-result
+overflow_add-result g c = omega (arith, (few_clauses _ _ _ _ _ c.in-Err.ensures).1, c.from.ensures, c.loop-before-test.true, c.views_of-before-end.type_inv)
 
 pub returns-in-Err : goal.returns-in-Err
-returns-in-Err g c = finds_break _ (g.M.MemoryModel.laws c.args.model.now) _ _ _ _ _ c.views-of-before-end.ensures c.loop-before.invariant c.loop-before-test.true _ _ c.from.ensures c.in-Err.ensures
+returns-in-Err g c = finds_break _ (g.M.MemoryModel.laws c.args.model.now) _ _ _ _ _ c.views_of-before-end.ensures c.loop-before.invariant c.loop-before-test.true _ _ c.from.ensures c.in-Err.ensures
 
 pub loop-before-preserved : goal.loop-before-preserved
-loop-before-preserved g c = passed_more _ (g.M.MemoryModel.laws c.args.model.now) _ _ _ _ _ c.views-of-before-end.ensures c.loop-before.invariant c.loop-before-test.true _ c.in-Ok.ensures
+loop-before-preserved g c = passed_more _ (g.M.MemoryModel.laws c.args.model.now) _ _ _ _ _ c.views_of-before-end.ensures c.loop-before.invariant c.loop-before-test.true _ c.in-Ok.ensures
 
 pub returns-in-Some : goal.returns-in-Some
-returns-in-Some g c = finds_disagreement _ (g.M.MemoryModel.laws c.args.model.now) _ _ _ _ _ c.views-of-before-end.ensures c.loop-before.invariant c.loop-before-test.false _ c.find-disagreeing.ensures _ _ c.from-in-Some.ensures c.in-Some.is
+returns-in-Some g c = finds_disagreement _ (g.M.MemoryModel.laws c.args.model.now) _ _ _ _ _ c.views_of-before-end.ensures c.loop-before.invariant c.loop-before-test.false _ c.find_disagreeing.ensures _ _ c.from-in-Some.ensures c.in-Some.is
 
-pub returns-then-is-empty : goal.returns-then-is-empty
-returns-then-is-empty g c = finds_nothing _ (g.M.MemoryModel.laws c.args.model.now) _ _ _ _ _ c.views-of-before-end.ensures c.loop-before.invariant c.loop-before-test.false _ c.find-disagreeing.ensures c.in-default.is (sym c.is-empty.ensures ∙ c.if-is-empty.true)
+pub returns-then-is_empty : goal.returns-then-is_empty
+returns-then-is_empty g c = finds_nothing _ (g.M.MemoryModel.laws c.args.model.now) _ _ _ _ _ c.views_of-before-end.ensures c.loop-before.invariant c.loop-before-test.false _ c.find_disagreeing.ensures c.in_default.is (sym c.is_empty.ensures ∙ c.if-is_empty.true)
 
-pub returns-else-is-empty : goal.returns-else-is-empty
-returns-else-is-empty g c = finds_left_over _ (g.M.MemoryModel.laws c.args.model.now) _ _ _ _ _ c.views-of-before-end.ensures c.loop-before.invariant c.loop-before-test.false _ c.find-disagreeing.ensures c.in-default.is (sym c.is-empty.ensures ∙ c.if-is-empty.false)
+pub returns-else-is_empty : goal.returns-else-is_empty
+returns-else-is_empty g c = finds_left_over _ (g.M.MemoryModel.laws c.args.model.now) _ _ _ _ _ c.views_of-before-end.ensures c.loop-before.invariant c.loop-before-test.false _ c.find_disagreeing.ensures c.in_default.is (sym c.is_empty.ensures ∙ c.if-is_empty.false)

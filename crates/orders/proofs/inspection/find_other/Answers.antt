@@ -4,14 +4,14 @@ use Rattle.orders.proofs.inspection.find_other.Goals as goal
 pub loop-other-init : goal.loop-other-init
 loop-other-init g c = compare_start _ _ _ _ _
 
-pub returns-in-err-earlier : goal.returns-in-err-earlier
-returns-in-err-earlier g c orders rest e le = absurd (compare_stops _ _ _ _ _ _ _ c.loop-other.invariant c.loop-other-test.true c.in-err-earlier.ensures orders rest e le)
+pub returns-in_err-earlier : goal.returns-in_err-earlier
+returns-in_err-earlier g c orders rest e le = absurd (compare_stops _ _ _ _ _ _ _ c.loop-other.invariant c.loop-other-test.true c.in_err-earlier.ensures orders rest e le)
 
-pub returns-then-not-is-agreeing : goal.returns-then-not-is-agreeing
-returns-then-not-is-agreeing g c = compare_fails _ _ _ _ _ _ _ c.loop-other.invariant c.loop-other-test.true _ _ c.in-ok-earlier.ensures _ c.is-agreeing.ensures c.if-not-is-agreeing.true
+pub returns-then-not-is_agreeing : goal.returns-then-not-is_agreeing
+returns-then-not-is_agreeing g c = compare_fails _ _ _ _ _ _ _ c.loop-other.invariant c.loop-other-test.true _ _ c.in_ok-earlier.ensures _ c.is_agreeing.ensures c.if-not-is_agreeing.true
 
 pub loop-other-preserved : goal.loop-other-preserved
-loop-other-preserved g c = compare_on _ _ _ _ _ _ _ c.loop-other.invariant c.loop-other-test.true _ _ c.in-ok-earlier.ensures _ c.is-agreeing.ensures c.if-not-is-agreeing.false
+loop-other-preserved g c = compare_on _ _ _ _ _ _ _ c.loop-other.invariant c.loop-other-test.true _ _ c.in_ok-earlier.ensures _ c.is_agreeing.ensures c.if-not-is_agreeing.false
 
 pub returns : goal.returns
 returns g c = compare_ends _ _ _ _ _ _ _ c.loop-other-test.false c.loop-other.invariant
