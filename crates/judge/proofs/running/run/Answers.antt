@@ -24,7 +24,7 @@ loop-call-preserved g c =
     let steps = c.in-Some.ensures.steps in
     let call = c.in-Some.call in
     let calls = c.loop-call.yielded in
-    let pushed = chosen _ _ _ _ c.push.ensures.items (ap is_ok c.in-ok-push.was) in
+    let pushed = chosen _ _ _ _ c.push.ensures.items (ap is_ok c.in_ok-push.was) in
     let plays = subst (λ x. Plays (g.M.MemoryModel.meaning x) (state_of c.loop-call.judge) call c.play.result (state_of c.play.new.self)) inv.1 c.play.ensures.played in (
       inv.0 ∙ ap (λ l. calls ++ l) steps.0 ∙ sym (append_assoc calls (call ∷ []) (into_iter_items c.next.new.self)),
       c.play.ensures.model ∙ inv.1,
@@ -39,7 +39,7 @@ returns g c =
     let calls = vec_items c.args.calls in
     let answers = vec_items c.loop-call.answers in
     let rest : into_iter_items c.loop-call.call-iterator ≡ [] = nil_from_length _ (omega (arith, c.in-None.ensures.steps.0, c.loop-call.call-iterator.rest.ok.0)) in
-    let becomes : into_iter_items c.into-iter-call-iterator.result ≡ calls = c.into-iter-call-iterator.ensures.into-iter-gives.0 in
+    let becomes : into_iter_items c.into_iter-call-iterator.result ≡ calls = c.into_iter-call-iterator.ensures.into_iter_gives.0 in
     let all : c.loop-call.yielded ≡ calls = sym (append-nil c.loop-call.yielded) ∙ ap (λ l. c.loop-call.yielded ++ l) (sym rest) ∙ sym inv.0 ∙ becomes in
     subst (λ x. Law (g.M.MemoryModel.meaning x) calls answers) c.new-judge.ensures.model
     (subst (λ l. Law m l answers) all (law_of m (g.M.MemoryModel.laws c.new-judge.result.model) c.loop-call.yielded answers inv.2.follows))

@@ -11,7 +11,7 @@ use Rattle.search.proofs.building.+fill.Goals as goal
 -- ---- the end of a view
 
 pub returns-then-view-tables : goal.returns-then-view-tables
-returns-then-view-tables t c = record { kept = refl; back = λ e. absurd (true≢false e); says = ends _ _ _ _ _ _ c.told-order c.requires (c.if-is-empty.ensures.0 refl) c.if-view-tables.true _ }
+returns-then-view-tables t c = record { kept = refl; back = λ e. absurd (true≢false e); says = ends _ _ _ _ _ _ c.told-order c.requires (c.if-is_empty.ensures.0 refl) c.if-view-tables.true _ }
 
 pub next-next-requires : goal.next-next-requires
 next-next-requires t c =
@@ -19,14 +19,14 @@ next-next-requires t c =
 
 pub fill-requires : goal.fill-requires
 fill-requires t c =
-    let none = c.if-is-empty.ensures.0 refl in
+    let none = c.if-is_empty.ensures.0 refl in
     let less = next_less _ _ _ _ _ _ c.told-order c.requires none c.if-view-tables.false c.next-next.result c.next-next.ensures in
     let falls : left c.args.tables.now c.next-next.result (view_of c.args.tables.now c.next-next.result.index) < t = omega (arith, c.decreases, less) in
     (falls, next_ready _ _ _ _ _ _ c.told-order c.requires none c.if-view-tables.false c.next-next.result c.next-next.ensures)
 
-pub returns-then-is-empty : goal.returns-then-is-empty
-returns-then-is-empty t c =
-    let none = c.if-is-empty.ensures.0 refl in
+pub returns-then-is_empty : goal.returns-then-is_empty
+returns-then-is_empty t c =
+    let none = c.if-is_empty.ensures.0 refl in
     record {
       kept = c.fill.ensures.kept;
       back = λ e. refl;
@@ -35,8 +35,8 @@ returns-then-is-empty t c =
 
 -- ---- a candidate
 
-pub is-clear-requires : goal.is-clear-requires
-is-clear-requires t c = c.args.tables.now.small c.in-Some.rank
+pub is_clear-requires : goal.is_clear-requires
+is_clear-requires t c = c.args.tables.now.small c.in-Some.rank
 
 pub bounds-order-placed : goal.bounds-order-placed
 bounds-order-placed t c = room_for_one _ _ _ _ _ _ c.told-order c.requires _ c.loop-rank.invariant.3 _ c.in-Some.ensures
@@ -44,11 +44,11 @@ bounds-order-placed t c = room_for_one _ _ _ _ _ _ c.told-order c.requires _ c.l
 pub place-last-requires : goal.place-last-requires
 place-last-requires t c = c.in-Some.ensures.index
 
-pub take-back-requires : goal.take-back-requires
-take-back-requires t c = c.in-Some.ensures.index
+pub take_back-requires : goal.take_back-requires
+take_back-requires t c = c.in-Some.ensures.index
 
-pub fill-requires-then-is-clear : goal.fill-requires-then-is-clear
-fill-requires-then-is-clear t c =
+pub fill-requires-then-is_clear : goal.fill-requires-then-is_clear
+fill-requires-then-is_clear t c =
     let tables = c.args.tables.now in
     let i = c.in-Some.rank in
     let noted = subst (λ (l : List ℕ). Noted tables i l c.place-last.result c.place-last.new.latest) c.loop-rank.invariant.2 c.place-last.ensures in
@@ -60,25 +60,25 @@ pub returns-then-fill : goal.returns-then-fill
 returns-then-fill t c =
     let i = c.in-Some.rank in
     let told = c.if-fill.ensures in
-    let clear = subst (λ (l : List ℕ). Clear (operation_of c.args.tables.now.operations i) (row_at c.args.view.now.before i) c.args.rest l) c.loop-rank.invariant.2 (c.if-is-clear.ensures.0 refl) in
+    let clear = subst (λ (l : List ℕ). Clear (operation_of c.args.tables.now.operations i) (row_at c.args.view.now.before i) c.args.rest l) c.loop-rank.invariant.2 (c.if-is_clear.ensures.0 refl) in
     record {
-      kept = further_kept _ _ _ _ _ _ c.told-order c.requires _ c.loop-rank.invariant.3 i c.in-Some.ensures _ c.loop-rank.invariant.0 c.loop-rank.invariant.1 c.without.result c.without.ensures.holds c.fill-then-is-clear.new.order c.fill-then-is-clear.array-long2 told.kept;
+      kept = further_kept _ _ _ _ _ _ c.told-order c.requires _ c.loop-rank.invariant.3 i c.in-Some.ensures _ c.loop-rank.invariant.0 c.loop-rank.invariant.1 c.without.result c.without.ensures.holds c.fill-then-is_clear.new.order c.fill-then-is_clear.array_long2 told.kept;
       back = λ e. absurd (true≢false e);
-      says = further_says _ _ _ _ _ _ c.told-order c.requires _ c.loop-rank.invariant.3 i c.in-Some.ensures _ c.loop-rank.invariant.0 c.loop-rank.invariant.1 c.without.result c.without.ensures.holds c.fill-then-is-clear.new.order c.fill-then-is-clear.array-long2 told.kept clear told.says;
+      says = further_says _ _ _ _ _ _ c.told-order c.requires _ c.loop-rank.invariant.3 i c.in-Some.ensures _ c.loop-rank.invariant.0 c.loop-rank.invariant.1 c.without.result c.without.ensures.holds c.fill-then-is_clear.new.order c.fill-then-is_clear.array_long2 told.kept clear told.says;
     }
 
-pub loop-rank-smaller-then-is-clear : goal.loop-rank-smaller-then-is-clear
-loop-rank-smaller-then-is-clear t c = fewer_candidates _ _ c.in-Some.rank c.in-Some.ensures c.without-candidates.ensures.holds
+pub loop-rank-smaller-then-is_clear : goal.loop-rank-smaller-then-is_clear
+loop-rank-smaller-then-is_clear t c = fewer_candidates _ _ c.in-Some.rank c.in-Some.ensures c.without-candidates.ensures.holds
 
-pub loop-rank-preserved-then-is-clear : goal.loop-rank-preserved-then-is-clear
-loop-rank-preserved-then-is-clear t c =
+pub loop-rank-preserved-then-is_clear : goal.loop-rank-preserved-then-is_clear
+loop-rank-preserved-then-is_clear t c =
     let i = c.in-Some.rank in
     let told = c.if-fill.ensures in
     let variable = (operation_of c.args.tables.now.operations i).variable in (
-      c.fill-then-is-clear.array-long2,
-      further_kept _ _ _ _ _ _ c.told-order c.requires _ c.loop-rank.invariant.3 i c.in-Some.ensures _ c.loop-rank.invariant.0 c.loop-rank.invariant.1 c.without.result c.without.ensures.holds c.fill-then-is-clear.new.order c.fill-then-is-clear.array-long2 told.kept,
-      c.take-back.ensures ∙ ap (λ (l : List ℕ). set l variable c.place-last.result) (told.back refl) ∙ c.place-last.ensures.back ∙ c.loop-rank.invariant.2,
-      further_tried _ _ _ _ _ _ c.told-order c.requires _ c.loop-rank.invariant.3 i c.in-Some.ensures _ c.loop-rank.invariant.0 c.loop-rank.invariant.1 c.without.result c.without.ensures.holds c.fill-then-is-clear.new.order c.fill-then-is-clear.array-long2 told.kept c.without-candidates.result c.without-candidates.ensures.holds told.says,
+      c.fill-then-is_clear.array_long2,
+      further_kept _ _ _ _ _ _ c.told-order c.requires _ c.loop-rank.invariant.3 i c.in-Some.ensures _ c.loop-rank.invariant.0 c.loop-rank.invariant.1 c.without.result c.without.ensures.holds c.fill-then-is_clear.new.order c.fill-then-is_clear.array_long2 told.kept,
+      c.take_back.ensures ∙ ap (λ (l : List ℕ). set l variable c.place-last.result) (told.back refl) ∙ c.place-last.ensures.back ∙ c.loop-rank.invariant.2,
+      further_tried _ _ _ _ _ _ c.told-order c.requires _ c.loop-rank.invariant.3 i c.in-Some.ensures _ c.loop-rank.invariant.0 c.loop-rank.invariant.1 c.without.result c.without.ensures.holds c.fill-then-is_clear.new.order c.fill-then-is_clear.array_long2 told.kept c.without-candidates.result c.without-candidates.ensures.holds told.says,
     )
 
 pub loop-rank-smaller : goal.loop-rank-smaller
@@ -90,7 +90,7 @@ loop-rank-preserved t c = (
   c.loop-rank.invariant.1,
   c.loop-rank.invariant.2,
   tried_not _ _ _ _ _ _ c.told-order c.requires _ c.loop-rank.invariant.3 c.in-Some.rank c.in-Some.ensures c.without-candidates.result c.without-candidates.ensures.holds
-      (λ clear. false≢true (c.if-is-clear.ensures.1 (subst (λ (l : List ℕ). Clear (operation_of c.args.tables.now.operations c.in-Some.rank) (row_at c.args.view.now.before c.in-Some.rank) c.args.rest l) (sym c.loop-rank.invariant.2) clear))),
+      (λ clear. false≢true (c.if-is_clear.ensures.1 (subst (λ (l : List ℕ). Clear (operation_of c.args.tables.now.operations c.in-Some.rank) (row_at c.args.view.now.before c.in-Some.rank) c.args.rest l) (sym c.loop-rank.invariant.2) clear))),
 )
 
 pub loop-rank-init : goal.loop-rank-init
@@ -101,5 +101,5 @@ returns t c =
     record {
       kept = c.loop-rank.invariant.1;
       back = λ e. c.loop-rank.invariant.2;
-      says = no_candidates _ _ _ _ _ _ c.told-order c.requires c.loop-rank.candidates c.loop-rank.invariant.3 c.in-default.ensures (λ h. false≢true (c.if-is-empty.ensures.1 h)) c.loop-rank.order;
+      says = no_candidates _ _ _ _ _ _ c.told-order c.requires c.loop-rank.candidates c.loop-rank.invariant.3 c.in_default.ensures (λ h. false≢true (c.if-is_empty.ensures.1 h)) c.loop-rank.order;
     }

@@ -8,4 +8,4 @@ pub returns : goal.returns
 returns g c =
     let model = c.args.model.now in
     let table = c.args.table.now in
-    found_or_none (g.M.MemoryModel.meaning model) (g.M.MemoryModel.laws model) (trace_of table) (facts (trace_of table) (well_formed table).few) c.of.result c.of.ensures c.first-orders.result c.first-orders.ensures
+    found_or_none (g.M.MemoryModel.meaning model) (g.M.MemoryModel.laws model) (trace_of table) (facts (trace_of table) (well_formed table).few) c.of.result c.of.ensures c.first_orders.result c.first_orders.ensures

@@ -17,7 +17,7 @@ returns-in-Some g c =
     let judge = c.args.self.now in
     let complete = c.completeness-refusal in
     record {
-      verdict = judging_legal (g.M.MemoryModel.meaning judge.model) (state_of judge) complete.result complete.ensures.complete c.if-refusal-ne0.false c.first-orders-self.result c.first-orders-self.ensures c.in-Some.field-0 c.in-Some.is;
+      verdict = judging_legal (g.M.MemoryModel.meaning judge.model) (state_of judge) complete.result complete.ensures.complete c.if-refusal-ne0.false c.first_orders-self.result c.first_orders-self.ensures c.in-Some.field-0 c.in-Some.is;
       model = refl;
     }
 
@@ -26,6 +26,6 @@ returns-in-None g c =
     let judge = c.args.self.now in
     let complete = c.completeness-refusal in
     record {
-      verdict = judging_illegal (g.M.MemoryModel.meaning judge.model) (state_of judge) complete.result complete.ensures.complete c.if-refusal-ne0.false c.first-orders-self.result c.first-orders-self.ensures c.in-None.is;
+      verdict = judging_illegal (g.M.MemoryModel.meaning judge.model) (state_of judge) complete.result complete.ensures.complete c.if-refusal-ne0.false c.first_orders-self.result c.first_orders-self.ensures c.in-None.is;
       model = refl;
     }

@@ -36,13 +36,13 @@ returns g c =
       | in-View w ↦
           let slots = w.in-View.slots in
           let after = w.view.new.slots in
-          let items = with_items_is slots after (w.view.auto.slots ∙ w.as-mut-slice.ensures.len) in
+          let items = with_items_is slots after (w.view.auto.slots ∙ w.as_mut_slice.ensures.len) in
           record {
             played =
                 plays_view m s u given left r w.in-View.view slots (with_items slots after) w.in-View.is w.call-is (ap state_of w.self-is)
                 (subst (λ x. Showing s.standing w.in-View.view (vec_items slots) x (vec_items (with_items slots after))) (sym w.refusal-is)
                 (subst (Showing s.standing w.in-View.view (vec_items slots) w.view.result) (sym items)
-                (subst (λ l. Showing s.standing w.in-View.view l w.view.result after) w.as-mut-slice.ensures.value w.view.ensures)));
+                (subst (λ l. Showing s.standing w.in-View.view l w.view.result after) w.as_mut_slice.ensures.value w.view.ensures)));
             model = ap (λ j. j.model) w.self-is;
           }
       | in-Inspect w ↦
@@ -50,13 +50,13 @@ returns g c =
             played =
                 plays_inspect m s u given left r w.in-Inspect.numbers w.in-Inspect.is w.call-is (ap state_of w.self-is)
                 (subst (Inspected m s.trace (vec_items w.in-Inspect.numbers)) (sym w.refusal-is)
-                (subst (λ l. Inspected m s.trace l w.inspect.result) w.as-slice.ensures.value w.inspect.ensures.answer));
+                (subst (λ l. Inspected m s.trace l w.inspect.result) w.as_slice.ensures.value w.inspect.ensures.answer));
             model = ap (λ j. j.model) w.self-is;
           }
       | in-Save w ↦
           let bytes = w.in-Save.bytes in
           let after = w.save.new.bytes in
-          let lent = w.as-mut-slice-in-Save.ensures in
+          let lent = w.as_mut_slice-in-Save.ensures in
           let items = with_items_is bytes after (w.save.auto.bytes ∙ lent.len) in
           record {
             played =

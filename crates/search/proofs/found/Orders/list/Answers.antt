@@ -13,14 +13,14 @@ returns-then-view-lt1 c view =
 within : (c : After-start-from) → c.start-from.result + get_or c.args.self.now.counts (c.args.view - 1) 0 ≤ 1024
 within c = omega (arith, c.start-from.ensures, ends_within c.args.self.now (c.args.view - 1) (omega (arith, c.if-view-lt1.false, c.if-view-self.false)))
 
-pub overflow-add-end : goal.overflow-add-end
-overflow-add-end c = let low = within (goal.at.overflow-add-end c).After-start-from in search rules
+pub overflow_add-end : goal.overflow_add-end
+overflow_add-end c = let low = within (goal.at.overflow_add-end c).After-start-from in search rules
 
-pub offset-bounds-self-from : goal.offset-bounds-self-from
-offset-bounds-self-from c = let low = within (goal.at.offset-bounds-self-from c).After-start-from in search rules
+pub offset_bounds-self-from : goal.offset_bounds-self-from
+offset_bounds-self-from c = let low = within (goal.at.offset_bounds-self-from c).After-start-from in search rules
 
-pub slice-bounds-result-end : goal.slice-bounds-result-end
-slice-bounds-result-end c = let low = within (goal.at.slice-bounds-result-end c).After-start-from in search rules
+pub slice_bounds-result-end : goal.slice_bounds-result-end
+slice_bounds-result-end c = let low = within (goal.at.slice_bounds-result-end c).After-start-from in search rules
 
 pub returns : goal.returns
 returns c =

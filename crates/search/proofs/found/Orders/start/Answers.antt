@@ -3,8 +3,8 @@ use Rattle.std.proofs.lemmas.List.Sums.{sum_by_more}
 use Rattle.search.proofs.Parts.{ends_within}
 use Rattle.search.proofs.found.Orders.start.Goals as goal
 
-pub overflow-add-place : goal.overflow-add-place
-overflow-add-place c =
+pub overflow_add-place : goal.overflow_add-place
+overflow_add-place c =
     let within = ends_within c.args.self.now c.loop-earlier.earlier (omega (arith, c.loop-earlier-test.true, c.requires)) in
     let inv = c.loop-earlier.invariant in
     search rules

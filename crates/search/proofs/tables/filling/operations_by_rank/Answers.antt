@@ -8,7 +8,7 @@ use Rattle.ranks.proofs.Facts.{facts}
 use Rattle.search.specs.Filling.{Listing}
 use Rattle.search.proofs.Filling.{listing_none, listing_more}
 use Rattle.search.proofs.tables.filling.operations_by_rank.Goals as goal
-use Rattle.search.proofs.tables.filling.operations_by_rank.Goals.{in-Some, in-default}
+use Rattle.search.proofs.tables.filling.operations_by_rank.Goals.{in-Some, in_default}
 
 pub loop-rank-init : goal.loop-rank-init
 loop-rank-init c = listing_none _ _
@@ -25,5 +25,5 @@ loop-rank-preserved c =
       | in-Some w ↦
           subst (Listing t _ (n + 1)) (sym w.operations-is)
           (listing_more t _ n c.loop-rank.operations w.in-Some.operation (omega (arith, c.loop-rank-test.true, c.len-rank-end.ensures.bound)) good c.loop-rank.invariant (sym found ∙ w.in-Some.is))
-      | in-default w ↦ absurd (both_ways _ (ap is_some (ap (operation_at t) (ap (λ list. number_at list n) (sym c.requires)) ∙ sym found ∙ w.in-default.is)) ((facts t good.few).there n below))
+      | in_default w ↦ absurd (both_ways _ (ap is_some (ap (operation_at t) (ap (λ list. number_at list n) (sym c.requires)) ∙ sym found ∙ w.in_default.is)) ((facts t good.few).there n below))
     ]
