@@ -3,8 +3,8 @@ use Rattle.judge_c.specs.Numbers.{unnamed}
 use Rattle.judge_c.proofs.Answering.{told_so}
 use Rattle.judge_c.proofs.dilavondra_judge.Goals as goal
 
-pub returns-in-default : goal.returns-in-default
-returns-in-default c = unnamed c.in-default.ensures
+pub returns-in_default : goal.returns-in_default
+returns-in_default c = unnamed c.in_default.ensures
 
 pub returns-in-S : goal.returns-in-S
 returns-in-S c = told_so _ _ _ S _ c.in-Some.ensures c.in-S.is c.answer.ensures

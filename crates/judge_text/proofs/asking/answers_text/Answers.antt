@@ -8,6 +8,6 @@ use Rattle.judge_text.proofs.asking.answers_text.Goals as goal
 pub returns : goal.returns
 returns c =
     let answers = c.args.answers.now in
-    IfOk-weaker c.legal-text.result (λ s. string_bytes s ≡ codes "legal\n" ++ flat_map shown_line (take (length answers - 2) (drop 2 answers))) (λ s. string_bytes s ≡ answers_text answers)
+    IfOk-weaker c.legal_text.result (λ s. string_bytes s ≡ codes "legal\n" ++ flat_map shown_line (take (length answers - 2) (drop 2 answers))) (λ s. string_bytes s ≡ answers_text answers)
     (λ s e. e ∙ legal_is answers c.load-item.result c.judge-item.result (search rules) c.load-item.is c.judge-item.is c.if-load-ne0.false c.if-judge-ne0.false c.if-judge-eq0.false)
-    c.legal-text.ensures
+    c.legal_text.ensures

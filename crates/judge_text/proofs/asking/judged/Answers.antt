@@ -10,8 +10,8 @@ returns g c =
     let m = g.M.MemoryModel.meaning c.args.model in
     let file = c.args.file.now in
     let told =
-    answers_told m (g.M.MemoryModel.laws c.args.model) file (λ k. (c.type_inv.file k).fits) (vec_items c.in-ok-calls.field-0) (vec_items c.in-ok-answers.answers)
-    c.in-ok-calls.ensures c.in-ok-answers.ensures in
-    IfOk-weaker c.answers-text.result (λ s. string_bytes s ≡ answers_text c.as-slice.result.now) (λ s. FileTold m file (string_bytes s))
-    (λ s e. subst (FileTold m file) (sym (e ∙ ap answers_text c.as-slice.ensures.value)) told)
-    c.answers-text.ensures
+    answers_told m (g.M.MemoryModel.laws c.args.model) file (λ k. (c.type_inv.file k).fits) (vec_items c.in_ok-calls.field-0) (vec_items c.in_ok-answers.answers)
+    c.in_ok-calls.ensures c.in_ok-answers.ensures in
+    IfOk-weaker c.answers_text.result (λ s. string_bytes s ≡ answers_text c.as_slice.result.now) (λ s. FileTold m file (string_bytes s))
+    (λ s e. subst (FileTold m file) (sym (e ∙ ap answers_text c.as_slice.ensures.value)) told)
+    c.answers_text.ensures

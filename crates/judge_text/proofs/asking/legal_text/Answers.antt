@@ -7,8 +7,8 @@ use Rattle.judge_text.proofs.asking.legal_text.Goals as goal
 
 pub loop-played-preserved : goal.loop-played-preserved
 loop-played-preserved c =
-    let line = c.as-str.ensures.value ∙ c.in-ok-line.ensures ∙ ap shown_line c.played-item.is in
-    c.in-ok-push-str.ensures.bytes
+    let line = c.as_str.ensures.value ∙ c.in_ok-line.ensures ∙ ap shown_line c.played-item.is in
+    c.in_ok-push_str.ensures.bytes
     ∙ (λ j. c.loop-played.invariant j ++ line j)
     ∙ joined_next shown_line (codes "legal\n") c.args.views.now c.loop-played.played-index c.played-item.result c.loop-played-test.true
 

@@ -12,6 +12,6 @@ returns-in-View c =
     let slots = c.in-View.slots in
     let shown = c.min-shown.result in
     let count : shown ≡ min (length (vec_items slots)) a.value = search rules in
-    IfOk-weaker c.view-line.result (λ s. string_bytes s ≡ view_line k (take shown c.as-slice.result.now)) (λ s. string_bytes s ≡ shown_line a)
-    (λ s e. e ∙ (λ i. view_line k (take (count i) (c.as-slice.ensures.value i))) ∙ shown_is a k slots c.in-View.is c.if-played-eq0.true)
-    c.view-line.ensures
+    IfOk-weaker c.view_line.result (λ s. string_bytes s ≡ view_line k (take shown c.as_slice.result.now)) (λ s. string_bytes s ≡ shown_line a)
+    (λ s e. e ∙ (λ i. view_line k (take (count i) (c.as_slice.ensures.value i))) ∙ shown_is a k slots c.in-View.is c.if-played-eq0.true)
+    c.view_line.ensures

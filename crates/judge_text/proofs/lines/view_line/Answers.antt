@@ -7,15 +7,15 @@ use Rattle.judge_text.proofs.lines.view_line.Goals as goal
 
 pub loop-number-preserved : goal.loop-number-preserved
 loop-number-preserved c =
-    let more = c.as-str.ensures.value ∙ c.in-ok-more.ensures.ok in
-    c.in-ok-push-str.ensures.bytes
+    let more = c.as_str.ensures.value ∙ c.in_ok-more.ensures.ok in
+    c.in_ok-push_str.ensures.bytes
     ∙ (λ j. c.loop-number.invariant j ++ more j)
-    ∙ joined_next spaced (string_bytes c.in-ok-line.line) c.args.numbers.now c.loop-number.number-index 0 c.loop-number-test.true
+    ∙ joined_next spaced (string_bytes c.in_ok-line.line) c.args.numbers.now c.loop-number.number-index 0 c.loop-number-test.true
 
 pub returns : goal.returns
 returns c =
     let numbers = c.args.numbers.now in
-    c.in-ok-push-str-2.ensures.bytes
+    c.in_ok-push_str-2.ensures.bytes
     ∙ (λ j. c.loop-number.invariant j ++ codes "\n")
-    ∙ (λ j. (c.in-ok-line.ensures.ok j ++ flat_map spaced (take_all c.loop-number.number-index numbers c.loop-number-test.false j)) ++ codes "\n")
+    ∙ (λ j. (c.in_ok-line.ensures.ok j ++ flat_map spaced (take_all c.loop-number.number-index numbers c.loop-number-test.false j)) ++ codes "\n")
     ∙ append_assoc (codes "view " ++ (decimal c.args.view ++ codes ":")) (flat_map spaced numbers) (codes "\n")
