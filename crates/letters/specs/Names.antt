@@ -1,5 +1,5 @@
 -- The letters of each model, and the model of the letters.
-use Rattle.std.specs.Prelude.{◌≡◌, ℕ, List, [], ◌∷◌, ◌≢◌}
+use Rattle.std.specs.Prelude.{ℕ, List, [], ◌∷◌, ◌≢◌}
 use Rattle.models.specs.Meaning.{Meaning}
 use Rattle.models.specs.Bases.{sequential, coherent, pram}
 use Rattle.models.specs.Layers.{write_into, agreement}

@@ -1,5 +1,5 @@
 -- The closed table is the write-into order, rank by rank.
-use Rattle.std.proofs.Common.{◌≡◌, ℕ, ◌<◌, ◌≤◌, true, ◌⊎◌, List, length, Decides, sym, refl, ap, ◌∙◌, subst, inl, inr, ⊎_elim, arith}
+use Rattle.std.proofs.Common.{◌≡◌, ℕ, ◌<◌, ◌≤◌, List, sym, refl, subst, inl, inr, ⊎_elim, arith}
 use Rattle.std.proofs.lemmas.Bool.{both_ways}
 use Rattle.opset.specs.declared.OpSet.{OpSet}
 use Rattle.opset.specs.Sets.{has, Empty}
@@ -7,7 +7,7 @@ use Rattle.trace.specs.Traces.{Trace, operation_count, There}
 use Rattle.ranks.specs.Numbers.{numbers, number_at, Numbers, RankOf, Unlisted}
 use Rattle.models.specs.Meaning.{Meaning, Laws}
 use Rattle.models.specs.Chains.{Chain, one, more}
-use Rattle.models.specs.Rows.{Row, Rows, row_at, Added, Edge, Closed}
+use Rattle.models.specs.Rows.{Row, Rows, Added, Edge, Closed}
 use Rattle.models.specs.Layers.{Names, Step, write_into, step_there}
 
 module _ (m : Meaning) (laws : Laws m) (t : Trace) (few : operation_count t ≤ 64) (facts : Numbers t) where

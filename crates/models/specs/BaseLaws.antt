@@ -1,13 +1,13 @@
 -- The three base models keep the laws.
-use Rattle.std.specs.Prelude.{◌≡◌, ℕ, ◌≤◌, Bool, true, false, ◌&&◌, ◌||◌, ◌⊎◌, is_some, Some, None, Decides, Option, ◌==◌, ◌≢◌, nat_eq, refl}
-use Rattle.std.proofs.Common.{sym, ap, subst, ◌∙◌, inl, inr, ⊎_elim, arith}
+use Rattle.std.specs.Prelude.{◌≡◌, ℕ, Bool, true, false, ◌&&◌, ◌||◌, ◌⊎◌, is_some, Some, None, Decides, Option, ◌==◌, ◌≢◌, nat_eq, refl}
+use Rattle.std.proofs.Common.{sym, ap, subst, ◌∙◌, inr, ⊎_elim, arith}
 use Rattle.std.proofs.lemmas.Bool.{false≢true}
 use Rattle.std.proofs.lemmas.Bool.Decides.{Decides-like, Decides-and, Decides-or, Decides-eqb}
 use Rattle.trace.proofs.Forming.{decides_within}
 use Rattle.trace.specs.declared.operation.Operation.{Operation}
 use Rattle.trace.specs.Operations.{is_read, is_write, processor_of, Within, within}
-use Rattle.trace.specs.Traces.{Trace, processor_count, operation_at, Complete, Sourced, Saw, Prefix}
-use Rattle.models.specs.Meaning.{Meaning, Laws, Is}
+use Rattle.trace.specs.Traces.{Trace, processor_count, operation_at, Complete, Saw}
+use Rattle.models.specs.Meaning.{Laws, Is}
 use Rattle.models.specs.Bases.{sequential, coherent, pram, HeldByAll, HeldByVariable, HeldByProcessor}
 use Rattle.models.specs.Growth.{is_grows, is_there, there_grows, order_grows, same_operation}
 

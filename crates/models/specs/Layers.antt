@@ -1,13 +1,13 @@
 -- The two layers: write-into order and agreement on writes. Each makes a model of the one below it.
 -- Rests on the meaning of a model and on chains.
-use Rattle.std.specs.Prelude.{◌≡◌, ℕ, true, ◌⊎◌, refl}
-use Rattle.std.proofs.Common.{sym, ap, subst, ◌∙◌, inl, inr, ⊎_elim}
+use Rattle.std.specs.Prelude.{◌≡◌, ℕ, true, ◌⊎◌}
+use Rattle.std.proofs.Common.{sym, inl, inr, ⊎_elim}
 use Rattle.trace.specs.declared.operation.Operation.{Operation}
 use Rattle.trace.specs.Operations.{is_read, is_write}
 use Rattle.trace.specs.Traces.{Trace, There, Prefix}
 use Rattle.models.specs.Meaning.{Meaning, Laws, Is, Write, View}
 use Rattle.models.specs.Chains.{Chain, one, more, chain_map}
-use Rattle.models.specs.Growth.{is_grows, is_there, there_grows}
+use Rattle.models.specs.Growth.{is_grows, is_there}
 
 -- the read r names the write w
 pub record Names (t : Trace) (w r : ℕ) : Type 0 where

@@ -1,9 +1,9 @@
 -- An inspection finds one thing only, and 0 exactly where it finds nothing wrong.
-use Rattle.std.proofs.Common.{◌≡◌, ℕ, zero, suc, ◌+◌, ◌*◌, ◌<◌, ◌≤◌, List, [], ◌∷◌, ◌++◌, length, get_or, sym, refl, ap, ◌∙◌, subst, ⊎_elim, arith}
+use Rattle.std.proofs.Common.{◌≡◌, ℕ, suc, ◌+◌, ◌*◌, ◌<◌, ◌≤◌, List, [], ◌∷◌, ◌++◌, length, get_or, sym, refl, ap, ◌∙◌, subst, ⊎_elim, arith}
 use Rattle.std.proofs.lemmas.List.{length-append, append_assoc, append-nil, get_or-append-add}
 use Rattle.std.proofs.lemmas.Bool.{cases_lt}
 use Rattle.trace.specs.Traces.{Trace, processor_count}
-use Rattle.models.specs.Meaning.{Meaning, View}
+use Rattle.models.specs.Meaning.{Meaning}
 use Rattle.orders.specs.Orders.{view_at, Explains, Meets}
 use Rattle.orders.proofs.Splitting.{one_list, goes_on}
 use Rattle.orders.specs.Inspecting.{written, Fails, not_exact, not_ordered, not_seeing, Breaks, ends, fails, Disagrees, Begins, FindsLast, disagrees, left_over, meets, Finds, breaks, whole, Passes, Failure, own, agreement}

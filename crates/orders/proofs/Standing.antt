@@ -1,13 +1,12 @@
 -- Starts of orders that meet a model stand; a start that stands and is full meets it.
-use Rattle.std.proofs.Common.{◌≡◌, ℕ, zero, suc, ◌+◌, ◌<◌, ◌≤◌, List, [], ◌∷◌, ◌++◌, length, get_or, sym, refl, ◌∙◌, subst, ⊎_elim, arith}
+use Rattle.std.proofs.Common.{◌≡◌, ℕ, zero, suc, ◌<◌, ◌≤◌, List, [], ◌∷◌, ◌++◌, length, get_or, sym, ◌∙◌, subst, arith}
 use Rattle.std.proofs.lemmas.List.{append_assoc}
-use Rattle.std.proofs.lemmas.Bool.{cases_lt}
 use Rattle.trace.specs.Operations.{Within}
 use Rattle.trace.specs.Traces.{Trace, processor_count}
 use Rattle.models.specs.Meaning.{Meaning, Laws, View}
 use Rattle.orders.specs.Lists.{Stands, Earlier}
 use Rattle.orders.specs.Orders.{view_at, Explains, Agrees, Meets}
-use Rattle.orders.specs.Starts.{Placed, AllPlaced, Standing, StartOf}
+use Rattle.orders.specs.Starts.{Placed, Standing, StartOf}
 use Rattle.orders.proofs.Places.{not_parted, stands_earlier, earlier_stands}
 use Rattle.orders.proofs.Agreement.{agrees_both}
 

@@ -11,7 +11,7 @@ use Rattle.orders.specs.Orders.{Legal, Precedes, First}
 use Rattle.search.specs.declared.tables.Tables.{Tables}
 use Rattle.search.specs.Parting.{parted}
 use Rattle.search.specs.Tables.{Tabled}
-use Rattle.search.specs.Steps.{number_of, cut, total, NoFill}
+use Rattle.search.specs.Steps.{cut, total, NoFill}
 use Rattle.search.specs.declared.found.Orders.{Orders}
 use Rattle.search.specs.Found.{orders_of, FirstFound}
 use Rattle.search.proofs.Numbering.{numbered}

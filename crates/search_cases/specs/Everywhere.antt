@@ -1,5 +1,5 @@
 -- A model with as many views as a model can have, each of all operations in program order; and that it keeps the laws.
-use Rattle.std.specs.Prelude.{◌≡◌, ℕ, Bool, ◌&&◌, is_some, Decides}
+use Rattle.std.specs.Prelude.{ℕ, Bool, ◌&&◌, is_some, Decides}
 use Rattle.std.proofs.Common.{arith}
 use Rattle.std.proofs.lemmas.Bool.Decides.{Decides-like, Decides-and}
 use Rattle.trace.proofs.Forming.{decides_within}

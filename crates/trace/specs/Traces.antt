@@ -1,6 +1,6 @@
 -- A trace as a plain value: how many variables there are, and a lane of operations for each processor.
 -- Rests on operations alone; no type of the code's table is named here.
-use Rattle.std.specs.Prelude.{◌≡◌, ℕ, zero, suc, ◌+◌, ◌<◌, ◌≤◌, Bool, true, ◌&&◌, ◌⊎◌, List, [], ◌∷◌, ◌++◌, length, replicate, is_some, Some, None, sum_by, Option, slice_index_or}
+use Rattle.std.specs.Prelude.{◌≡◌, ℕ, zero, suc, ◌<◌, ◌≤◌, Bool, true, ◌&&◌, ◌⊎◌, List, [], ◌∷◌, ◌++◌, length, replicate, is_some, Some, None, sum_by, Option, slice_index_or}
 use Rattle.std.specs.List.{AllByRecursion as All, slice_get}
 use Rattle.trace.specs.declared.operation.Operation.{Operation}
 use Rattle.trace.specs.Operations.{is_read, is_write, processor_of, position_of, capacity, Within, Fitting, fitting}

@@ -1,4 +1,3 @@
-use Rattle.std.proofs.Common.{◌≡◌}
 use Rattle.models.proofs.Closing.{Reaching}
 use Rattle.models.proofs.closure.close.Given as goal
 

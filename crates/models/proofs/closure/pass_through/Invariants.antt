@@ -1,5 +1,3 @@
-use Rattle.std.proofs.Common.{◌≡◌, get_or}
-use Rattle.models.specs.Rows.{row_at}
 use Rattle.models.proofs.Passing.{Passing}
 use Rattle.models.proofs.closure.pass_through.Given as goal
 

@@ -1,4 +1,4 @@
-use Rattle.std.proofs.Common.{◌≡◌, ℕ, ◌||◌, ap, ◌∙◌, subst, arith}
+use Rattle.std.proofs.Common.{◌||◌, ap, ◌∙◌, subst, arith}
 use Rattle.opset.specs.Sets.{has}
 use Rattle.trace.specs.Tables.{trace_of}
 use Rattle.ranks.specs.Listings.{listed}

@@ -1,4 +1,4 @@
-use Rattle.std.proofs.Common.{◌≡◌, eqb, Decides, refl}
+use Rattle.std.proofs.Common.{◌≡◌, eqb, Decides}
 use Rattle.std.proofs.lemmas.Bool.{eq-eqb, ne_eqb}
 use Rattle.std.proofs.lemmas.Bool.Decides.{Decides-eqb}
 use Rattle.models.proofs.Filling.{filled_none, filled_step, filled_all}

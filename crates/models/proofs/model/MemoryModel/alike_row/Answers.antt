@@ -1,7 +1,7 @@
-use Rattle.std.proofs.Common.{ℕ, ◌+◌, sym, ap, ◌∙◌, subst}
+use Rattle.std.proofs.Common.{ap, ◌∙◌}
 use Rattle.trace.specs.Tables.{trace_of}
-use Rattle.ranks.specs.Numbers.{numbers, number_at}
-use Rattle.models.proofs.Filling.{Filled, filled_none, filled_step, filled_all}
+use Rattle.ranks.specs.Numbers.{number_at}
+use Rattle.models.proofs.Filling.{filled_none, filled_step, filled_all}
 use Rattle.models.proofs.model.MemoryModel.alike_row.Goals as goal
 use Rattle.models.proofs.model.MemoryModel.alike_row.Goals.{then-alike, else-alike}
 

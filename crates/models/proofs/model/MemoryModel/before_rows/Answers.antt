@@ -2,7 +2,7 @@ use Rattle.std.proofs.Common.{refl, ap, ◌∙◌, subst}
 use Rattle.trace.specs.Tables.{trace_of}
 use Rattle.ranks.specs.Numbers.{numbers, number_at}
 use Rattle.models.specs.Rows.{Row}
-use Rattle.models.proofs.Filling.{FilledRows, rows_none, rows_more, rows_all}
+use Rattle.models.proofs.Filling.{rows_none, rows_more, rows_all}
 use Rattle.models.proofs.model.MemoryModel.before_rows.Goals as goal
 
 pub loop-rank-init : goal.loop-rank-init
