@@ -1,6 +1,6 @@
 -- What is printed for an input: letters, a byte 10, and a trace file. Rests on the lines, on the file, and on legality.
 use Rattle.std.specs.Prelude.{◌≡◌, ℕ, List, ◌∷◌, ◌++◌, take, ◌≢◌}
-use Rattle.std.specs.List.{AllByRecursion as All}
+use Rattle.std.specs.List.{AllByRecursion}
 use Rattle.trace.specs.Traces.{Trace, Complete}
 use Rattle.trace.specs.Completeness.{completeness_answer}
 use Rattle.trace_file.specs.Reading as reading
@@ -26,7 +26,7 @@ pub data FileTold (m : Meaning) (file : List ℕ) : List ℕ → Type 0 where
 
 -- no byte is a byte 10
 abbrev pub Unended : List ℕ → Type 0
-Unended bytes = All (λ b. b ≢ 10) bytes
+Unended bytes = AllByRecursion (λ b. b ≢ 10) bytes
 
 -- the letters are what stands before the first byte 10, and the file is what follows it
 pub record Parted (input letters file : List ℕ) : Type 0 where

@@ -1,6 +1,6 @@
 -- Orders of a whole trace, cut down to what a prefix of it holds, meet the model on the prefix.
 use Rattle.std.proofs.Common.{◌≡◌, ℕ, zero, suc, ◌+◌, ◌≤◌, Bool, true, false, List, [], ◌∷◌, ◌++◌, length, get_or, filter, sym, refl, ap, ◌∙◌, subst, ⊎_elim, arith}
-use Rattle.std.specs.List.{AllByRecursion as All}
+use Rattle.std.specs.List.{AllByRecursion}
 use Rattle.std.proofs.lemmas.List.Elements.{filter-append}
 use Rattle.std.proofs.ByRecursion.{all_kept_by, All-weaker}
 use Rattle.std.proofs.lemmas.Bool.{cases_Bool, cond-true, cond-false}
@@ -86,7 +86,7 @@ module _ (m : Meaning) (laws : Laws m) (t u : Trace) (ct : Complete t) (cu : Com
   write_grows : (v i : ℕ) → WriteTo t v i → WriteTo u v i
   write_grows v i w = record { operation = w.operation; there = is_grows t u p i w.operation w.there; writes = w.writes; variable = w.variable }
 
-  none_kept : (k v : ℕ) (list : List ℕ) → All (λ i. WriteTo u v i → ⊥) list → All (λ i. WriteTo t v i → ⊥) (filter (holds_test k) list)
+  none_kept : (k v : ℕ) (list : List ℕ) → AllByRecursion (λ i. WriteTo u v i → ⊥) list → AllByRecursion (λ i. WriteTo t v i → ⊥) (filter (holds_test k) list)
   none_kept k v list a = All-weaker (λ i. WriteTo u v i → ⊥) (λ i. WriteTo t v i → ⊥) (λ i f w. f (write_grows v i w)) (filter (holds_test k) list) (all_kept_by (holds_test k) (λ i. WriteTo u v i → ⊥) list a)
 
   not_zero : (v s : ℕ) → WriteTo u v s → s ≡ 0 → ⊥

@@ -1,6 +1,6 @@
 -- Where numbers stand in a list, by its partings.
 use Rattle.std.proofs.Common.{◌≡◌, ℕ, ◌<◌, ◌⊎◌, List, [], ◌∷◌, ◌++◌, length, sym, ap, ◌∙◌, subst, inl, inr, ⊎_elim, arith}
-use Rattle.std.specs.List.{AllByRecursion as All}
+use Rattle.std.specs.List.{AllByRecursion}
 use Rattle.std.proofs.lemmas.List.{length-append, append_assoc}
 use Rattle.std.proofs.lemmas.Bool.{cases_lt}
 use Rattle.orders.specs.Lists.{Stands, Earlier, Once}
@@ -99,15 +99,15 @@ either_way list i j s r =
     (compare (length s.before) (length r.before))
 
 -- what is so of all numbers of a list is so of one that stands in it
-pub all_parted : (P : ℕ → Type 0) (list before after : List ℕ) (i : ℕ) → list ≡ before ++ i ∷ after → All P list → P i
-all_parted P list before after i e all = at before (subst (All P) e all)
+pub all_parted : (P : ℕ → Type 0) (list before after : List ℕ) (i : ℕ) → list ≡ before ++ i ∷ after → AllByRecursion P list → P i
+all_parted P list before after i e all = at before (subst (AllByRecursion P) e all)
   where
-    at : (before : List ℕ) → All P (before ++ i ∷ after) → P i
+    at : (before : List ℕ) → AllByRecursion P (before ++ i ∷ after) → P i
     at [] h = h.0
     at (x ∷ before) h = at before h.1
 
 -- a list parted at i, and at j further on: what is so of all behind i is so of j
-pub behind_parted : (P : ℕ → Type 0) (front back front' back' : List ℕ) (i j : ℕ) → front ++ i ∷ back ≡ front' ++ j ∷ back' → length front < length front' → All P back → P j
+pub behind_parted : (P : ℕ → Type 0) (front back front' back' : List ℕ) (i j : ℕ) → front ++ i ∷ back ≡ front' ++ j ∷ back' → length front < length front' → AllByRecursion P back → P j
 behind_parted P front back [] back' i j e l all = absurd (omega arith)
 behind_parted P [] back (y ∷ front') back' i j e l all =
     let tail : back ≡ front' ++ j ∷ back' = cc in

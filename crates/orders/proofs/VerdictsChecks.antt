@@ -2,7 +2,7 @@
 -- The order that is required, a closure, is told by an order of all operations for each view, in which every step goes forward.
 use Rattle.std.proofs.Common.{◌≡◌, ℕ, zero, suc, ◌<◌, ◌≤◌, Bool, true, false, cond, not, ◌&&◌, ◌||◌, eqb, ltb, List, [], ◌∷◌, ◌++◌, length, unwrap_or, sym, refl, ap, ◌∙◌, subst, inl, inr, ⊎_elim, arith}
 use Rattle.std.specs.Option.{option_map}
-use Rattle.std.specs.List.{AllByRecursion as All}
+use Rattle.std.specs.List.{AllByRecursion}
 use Rattle.std.proofs.ByRecursion.{All-get_or, Decides-by_and}
 use Rattle.std.proofs.lemmas.Bool.{cases_Bool, cond-true, cond-false, and_parts, and_from, or_left, or_right, both_ways, not-true, eqb-true, ne_eqb, ltb-true, lt-ltb}
 use Rattle.std.proofs.lemmas.Bool.Decides.{Decides-below_and, not_from_Decides}
@@ -47,7 +47,7 @@ abbrev pub every : (ℕ → Bool) → List ℕ → Bool
 every test [] = true
 every test (x ∷ list) = test x && every test list
 
-every_all : (test : ℕ → Bool) (list : List ℕ) → every test list ≡ true → All (λ i. test i ≡ true) list
+every_all : (test : ℕ → Bool) (list : List ℕ) → every test list ≡ true → AllByRecursion (λ i. test i ≡ true) list
 every_all test list e = (Decides-by_and test (λ i. test i ≡ true) (every test) (λ i. itself (test i)) refl (λ _ _. refl) list).0 e
 
 -- whether all numbers below n pass a test
@@ -95,7 +95,7 @@ module _ (m : Meaning) (t : Trace) (b : Tested m t) (few : operation_count t ≤
   everywhere test e i there =
       let r = (facts t few).every i there in
       subst (λ j. test j ≡ true) r.1.at
-      (All-get_or (λ j. test j ≡ true) (numbers t) r.0 0 r.1.within (subst (All (λ j. test j ≡ true)) (sym all) (every_all test ns e)))
+      (All-get_or (λ j. test j ≡ true) (numbers t) r.0 0 r.1.within (subst (AllByRecursion (λ j. test j ≡ true)) (sym all) (every_all test ns e)))
 
   -- a view, and an order of all operations in which every step goes forward
   module _ (k : ℕ) (whole list : List ℕ) (goes : forward t ns whole ≡ true) (told : explains t ns whole (b.test k) list ≡ true) where

@@ -1,6 +1,6 @@
 -- Lists of numbers: the place of a number, and tests of where it stands.
 use Rattle.std.proofs.Common.{◌≡◌, ℕ, suc, ◌<◌, Bool, true, false, cond, ◌&&◌, ◌||◌, eqb, ◌⊎◌, List, [], ◌∷◌, ◌++◌, length, Decides, sym, refl, ap, ◌∙◌, inl, inr, ⊎_elim, arith}
-use Rattle.std.specs.List.{AllByRecursion as All}
+use Rattle.std.specs.List.{AllByRecursion}
 use Rattle.std.proofs.lemmas.List.{length-append, append_assoc, append-nil}
 use Rattle.std.proofs.lemmas.Bool.{false≢true, and_parts, or_cases, or_left, or_right, cond-true, cond-false, eqb-true, eq-eqb, ne_eqb}
 use Rattle.orders.specs.Lists.{Stands, Earlier, Once}
@@ -46,7 +46,7 @@ module _ (list : List ℕ) (once : Once list) where
       (either_way list i j s r)
 
 -- a number that stands in a list, and is P, is s or stands before it, where nothing behind s is P
-pub not_behind : (P : ℕ → Type 0) (front back front' back' : List ℕ) (s i : ℕ) → front ++ s ∷ back ≡ front' ++ i ∷ back' → All (λ j. P j → ⊥) back → P i → (i ≡ s) ⊎ Stands front i
+pub not_behind : (P : ℕ → Type 0) (front back front' back' : List ℕ) (s i : ℕ) → front ++ s ∷ back ≡ front' ++ i ∷ back' → AllByRecursion (λ j. P j → ⊥) back → P i → (i ≡ s) ⊎ Stands front i
 not_behind P front back front' back' s i e all p =
     ⊎_elim
     (λ l. absurd (behind_parted (λ j. P j → ⊥) front back front' back' s i e l all p))

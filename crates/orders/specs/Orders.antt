@@ -1,6 +1,6 @@
 -- What it is for orders to explain a trace under a model: four clauses. Rests on the meaning of a model.
 use Rattle.std.specs.Prelude.{◌≡◌, ℕ, zero, suc, ◌<◌, true, ◌⊎◌, List, [], ◌∷◌, ◌++◌, length, slice_index_or}
-use Rattle.std.specs.List.{AllByRecursion as All}
+use Rattle.std.specs.List.{AllByRecursion}
 use Rattle.trace.specs.declared.operation.Operation.{Operation}
 use Rattle.trace.specs.Operations.{is_read, is_write}
 use Rattle.trace.specs.Traces.{Trace, processor_count}
@@ -21,8 +21,8 @@ pub record WriteTo (t : Trace) (v i : ℕ) : Type 0 where
 
 -- the last write to variable v in a list is s; 0 where there is none
 pub data LastWrite (t : Trace) (v : ℕ) (list : List ℕ) : ℕ → Type 0 where
-  none : All (λ i. WriteTo t v i → ⊥) list → LastWrite t v list 0
-  last : (before after : List ℕ) (s : ℕ) → list ≡ before ++ s ∷ after → WriteTo t v s → All (λ i. WriteTo t v i → ⊥) after → LastWrite t v list s
+  none : AllByRecursion (λ i. WriteTo t v i → ⊥) list → LastWrite t v list 0
+  last : (before after : List ℕ) (s : ℕ) → list ≡ before ++ s ∷ after → WriteTo t v s → AllByRecursion (λ i. WriteTo t v i → ⊥) after → LastWrite t v list s
 
 -- a read r, with what stands before it in a view: the last write to its variable there is its source
 abbrev pub Sees : Trace → List ℕ → Operation → Type 0

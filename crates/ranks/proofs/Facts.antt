@@ -1,6 +1,6 @@
 -- The list of numbers has every operation's number once, rising.
 use Rattle.std.proofs.Common.{◌≡◌, ℕ, zero, suc, ◌+◌, ◌-◌, ◌*◌, ◌<◌, ◌≤◌, false, List, [], ◌∷◌, length, get_or, drop, is_some, Some, None, sum_by, sym, refl, ap, ◌∙◌, subst, ⊎_elim, zero-add, arith}
-use Rattle.std.specs.List.{AllByRecursion as All}
+use Rattle.std.specs.List.{AllByRecursion}
 use Rattle.std.proofs.ByRecursion.{All-get_or, All-weaker}
 use Rattle.std.proofs.lemmas.List.{drop_all}
 use Rattle.std.proofs.lemmas.List.Sums.{get_or-le-sum_by, sum_by-drop_more}
@@ -17,19 +17,19 @@ unused = record { kind = Read; variable = 0; source = 0; value = 0 }
 
 module _ (t : Trace) where
   -- each is an operation's, and from i on
-  members : (n i : ℕ) → All (λ k. (i ≤ k) × There t k) (numbers_from t i n)
+  members : (n i : ℕ) → AllByRecursion (λ k. (i ≤ k) × There t k) (numbers_from t i n)
   members zero i = tt
   members (suc n) i =
-      let later : All (λ k. (i ≤ k) × There t k) (numbers_from t (i + 1) n) = All-weaker (λ k. (i + 1 ≤ k) × There t k) (λ k. (i ≤ k) × There t k) (λ k h. (omega (arith, h.0), h.1)) (numbers_from t (i + 1) n) (members n (i + 1)) in
+      let later : AllByRecursion (λ k. (i ≤ k) × There t k) (numbers_from t (i + 1) n) = All-weaker (λ k. (i + 1 ≤ k) × There t k) (λ k. (i ≤ k) × There t k) (λ k h. (omega (arith, h.0), h.1)) (numbers_from t (i + 1) n) (members n (i + 1)) in
       ⊎_elim
-      (λ b. subst (All (λ k. (i ≤ k) × There t k)) (sym (cond-true _ _ _ b)) ((omega arith, b), later))
-      (λ b. subst (All (λ k. (i ≤ k) × There t k)) (sym (cond-false _ _ _ b)) later)
+      (λ b. subst (AllByRecursion (λ k. (i ≤ k) × There t k)) (sym (cond-true _ _ _ b)) ((omega arith, b), later))
+      (λ b. subst (AllByRecursion (λ k. (i ≤ k) × There t k)) (sym (cond-false _ _ _ b)) later)
       (cases_Bool (is_some (operation_at t i)))
 
   -- each number is below those after it
   Sorted : List ℕ → Type 0
   Sorted [] = Unit {0}
-  Sorted (x ∷ xs) = All (λ y. x < y) xs × Sorted xs
+  Sorted (x ∷ xs) = AllByRecursion (λ y. x < y) xs × Sorted xs
 
   sorted : (n i : ℕ) → Sorted (numbers_from t i n)
   unfolding Sorted

@@ -1,6 +1,6 @@
 -- Full lists of ranks, by what the tables say, are orders that meet the model; and the other way.
 use Rattle.std.proofs.Common.{◌≡◌, ℕ, zero, suc, ◌<◌, true, eqb, List, [], ◌∷◌, ◌++◌, map, length, get_or, take, drop, sym, refl, ap, ◌∙◌, subst, subst₂, ⊎_elim, arith}
-use Rattle.std.specs.List.{AllByRecursion as All}
+use Rattle.std.specs.List.{AllByRecursion}
 use Rattle.std.proofs.ByRecursion.{All-from_get_or}
 use Rattle.std.proofs.lemmas.List.{map-append, get_or_past, length-map}
 use Rattle.std.proofs.lemmas.Bool.{cases_lt, eqb-true, or_cases}
@@ -102,7 +102,7 @@ module _ (m : Meaning) (laws : Laws m) (t : Trace) (facts : Numbers t) (tables :
     pub is : map (number_at (numbers t)) ranks ≡ list
     pub ranked : Ranked t ranks
 
-  rank_list : (list : List ℕ) → All (There t) list → RankList list
+  rank_list : (list : List ℕ) → AllByRecursion (There t) list → RankList list
   rank_list [] all = record { ranks = []; is = refl; ranked = λ i s. absurd (not_parted s.before s.after i s.is) }
   rank_list (x ∷ list) all = more (facts.every x all.0) (rank_list list all.1)
     where
@@ -122,7 +122,7 @@ module _ (m : Meaning) (laws : Laws m) (t : Trace) (facts : Numbers t) (tables :
     pub is : numbered t lists ≡ orders
     pub ranked : (k : ℕ) → Ranked t (get_or lists k [])
 
-  rank_lists : (orders : List (List ℕ)) → All (All (There t)) orders → RankLists orders
+  rank_lists : (orders : List (List ℕ)) → AllByRecursion (AllByRecursion (There t)) orders → RankLists orders
   rank_lists [] all = record { lists = []; is = refl; ranked = λ k i s. absurd (not_parted s.before s.after i s.is) }
   rank_lists (list ∷ orders) all = more (rank_list list all.0) (rank_lists orders all.1)
     where
@@ -134,9 +134,9 @@ module _ (m : Meaning) (laws : Laws m) (t : Trace) (facts : Numbers t) (tables :
           ranked (suc k) = later.ranked k
 
   -- orders that meet the model are there
-  meets_there : (orders : List (List ℕ)) → Meets m t orders → All (All (There t)) orders
+  meets_there : (orders : List (List ℕ)) → Meets m t orders → AllByRecursion (AllByRecursion (There t)) orders
   meets_there orders meets =
-      All-from_get_or (All (There t)) orders []
+      All-from_get_or (AllByRecursion (There t)) orders []
       (λ k l.
       All-from_get_or (There t) (get_or orders k []) 0
       (λ p lp. (laws.held t (suc k) _ ((meets.each (suc k) (omega arith, omega (arith, l, meets.count))).exact.only _ (record { before = take p (get_or orders k []); after = drop (suc p) (get_or orders k []); is = split_at (get_or orders k []) p 0 lp }))).1))

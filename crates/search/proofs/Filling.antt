@@ -1,6 +1,6 @@
 -- The parts of the tables, filled view after view and rank after rank.
 use Rattle.std.proofs.Common.{◌≡◌, ℕ, zero, suc, ◌+◌, ◌^◌, ◌<◌, ◌≤◌, true, List, [], ◌∷◌, length, get_or, set, replicate, Some, sym, ap, ◌∙◌, subst, ⊎_elim, arith}
-use Rattle.std.specs.List.{AllByRecursion as All, slice_get}
+use Rattle.std.specs.List.{AllByRecursion, slice_get}
 use Rattle.std.proofs.ByRecursion.{All-get_or}
 use Rattle.std.proofs.lemmas.List.{length-set, length-replicate, get_or-set_same, get_or-set_other, get_or_past, get_or-replicate}
 use Rattle.std.proofs.lemmas.Bool.{both_ways, cases_eq, cases_lt}
@@ -62,20 +62,20 @@ module _ (m : Meaning) (t : Trace) where
 -- ---- the operations
 
 -- an operation that is there has its fields in range
-all_nth : (P : Operation → Type 0) (lane : List Operation) (q : ℕ) (o : Operation) → All P lane → slice_get lane q ≡ Some o → P o
+all_nth : (P : Operation → Type 0) (lane : List Operation) (q : ℕ) (o : Operation) → AllByRecursion P lane → slice_get lane q ≡ Some o → P o
 all_nth P [] q o a e = absurd (none_and_some e)
 all_nth P (x ∷ lane) zero o a e = let same : x ≡ o = cc in subst P same a.0
 all_nth P (x ∷ lane) (suc q) o a e = all_nth P lane q o a.1 e
 
-all_lane : (P : Operation → Type 0) (t : Trace) → All (All P) t.lanes → (p : ℕ) → All P (lane_at t p)
+all_lane : (P : Operation → Type 0) (t : Trace) → AllByRecursion (AllByRecursion P) t.lanes → (p : ℕ) → AllByRecursion P (lane_at t p)
 all_lane P t a zero = tt
 all_lane P t a (suc p) =
     ⊎_elim
-    (λ l. All-get_or (All P) t.lanes p [] l a)
-    (λ l. subst (All P) (sym (get_or_past t.lanes p [] l)) tt)
+    (λ l. All-get_or (AllByRecursion P) t.lanes p [] l a)
+    (λ l. subst (AllByRecursion P) (sym (get_or_past t.lanes p [] l)) tt)
     (cases_lt p (length t.lanes))
 
-all_positioned : (P : Operation → Type 0) (lane : List Operation) (q : ℕ) (o : Operation) → All P lane → positioned lane q ≡ Some o → P o
+all_positioned : (P : Operation → Type 0) (lane : List Operation) (q : ℕ) (o : Operation) → AllByRecursion P lane → positioned lane q ≡ Some o → P o
 all_positioned P lane zero o a e = absurd (none_and_some e)
 all_positioned P lane (suc q) o a e = all_nth P lane q o a e
 

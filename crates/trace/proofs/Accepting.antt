@@ -1,6 +1,6 @@
 -- What an answer says of its refusal, and what an accepted call answers and leaves.
 use Rattle.std.proofs.Common.{◌≡◌, ℕ, Bool, true, List, [], ◌∷◌, sym, refl, ap, ◌∙◌, ⊎_elim}
-use Rattle.std.specs.List.{AllByRecursion as All}
+use Rattle.std.specs.List.{AllByRecursion}
 use Rattle.std.proofs.lemmas.Bool.{cases_eq, cases_Bool, eq-eqb, ne_eqb, cond-true, cond-false}
 use Rattle.trace.specs.Traces.{Trace}
 use Rattle.trace.specs.Calls.{first_failed, answer, after}
@@ -16,7 +16,7 @@ refusal_told r x = ⊎_elim (λ e. ap (λ (a : ℕ × ℕ). a.0) (cond-true _ _ 
 
 -- a call with no refusal has passed every test, and the other way
 
-pub unfailed : (tests : List (Bool × ℕ)) → All (λ (c : Bool × ℕ). c.1 ≡ 0 → ⊥) tests → first_failed tests ≡ 0 → All (λ (c : Bool × ℕ). c.0 ≡ true) tests
+pub unfailed : (tests : List (Bool × ℕ)) → AllByRecursion (λ (c : Bool × ℕ). c.1 ≡ 0 → ⊥) tests → first_failed tests ≡ 0 → AllByRecursion (λ (c : Bool × ℕ). c.0 ≡ true) tests
 unfailed [] ne e = tt
 unfailed (c ∷ tests) ne e =
     ⊎_elim
@@ -24,6 +24,6 @@ unfailed (c ∷ tests) ne e =
     (λ b. absurd (ne.0 (sym (cond-false c.0 _ _ b) ∙ e)))
     (cases_Bool c.0)
 
-pub none_failed : (tests : List (Bool × ℕ)) → All (λ (c : Bool × ℕ). c.0 ≡ true) tests → first_failed tests ≡ 0
+pub none_failed : (tests : List (Bool × ℕ)) → AllByRecursion (λ (c : Bool × ℕ). c.0 ≡ true) tests → first_failed tests ≡ 0
 none_failed [] p = refl
 none_failed (c ∷ tests) p = cond-true c.0 _ _ p.0 ∙ none_failed tests p.1

@@ -1,6 +1,6 @@
 -- The tests on fields say what they should, operation by operation and lane by lane.
 use Rattle.std.proofs.Common.{◌≡◌, ℕ, zero, suc, ◌<◌, Bool, true, List, [], ◌∷◌, ◌++◌, length, get_or, take, set, replicate, Decides, refl}
-use Rattle.std.specs.List.{AllByRecursion as All}
+use Rattle.std.specs.List.{AllByRecursion}
 use Rattle.std.proofs.ByRecursion.{All-get_or, All-set, All-push, All-take, Decides-by_and}
 use Rattle.trace.specs.declared.operation.Operation.{Operation}
 use Rattle.trace.specs.Operations.{fitting}
@@ -10,10 +10,10 @@ pub itself : (b : Bool) → Decides b (b ≡ true)
 itself b = (λ e. e, λ e. e)
 
 module _ (p v : ℕ) where
-  pub lane_fits_all : (l : List Operation) → Decides (lane_fits p v l) (All (λ o. fitting p v o ≡ true) l)
+  pub lane_fits_all : (l : List Operation) → Decides (lane_fits p v l) (AllByRecursion (λ o. fitting p v o ≡ true) l)
   lane_fits_all = Decides-by_and (fitting p v) (λ o. fitting p v o ≡ true) (lane_fits p v) (λ o. itself (fitting p v o)) refl (λ _ _. refl)
 
-  pub lanes_fit_all : (ls : List (List Operation)) → Decides (lanes_fit p v ls) (All (λ l. lane_fits p v l ≡ true) ls)
+  pub lanes_fit_all : (ls : List (List Operation)) → Decides (lanes_fit p v ls) (AllByRecursion (λ l. lane_fits p v l ≡ true) ls)
   lanes_fit_all = Decides-by_and (lane_fits p v) (λ l. lane_fits p v l ≡ true) (lanes_fit p v) (λ l. itself (lane_fits p v l)) refl (λ _ _. refl)
 
   pub fits_push : (l : List Operation) (o : Operation) → lane_fits p v l ≡ true → fitting p v o ≡ true → lane_fits p v (l ++ o ∷ []) ≡ true

@@ -1,6 +1,6 @@
 -- Every table holds a well-formed trace: the tests that it keeps true are the relation.
 use Rattle.std.proofs.Common.{◌≡◌, ℕ, ◌/◌, ◌%◌, ◌^◌, true, false, eqb, leb, List, Decides, sym, refl, ap, ◌∙◌, subst, inl, inr, ⊎_elim, arith}
-use Rattle.std.specs.List.{AllByRecursion as All}
+use Rattle.std.specs.List.{AllByRecursion}
 use Rattle.std.proofs.ByRecursion.{All-weaker}
 use Rattle.std.proofs.lemmas.Bool.{eqb-true, eq-eqb, ltb-true, lt-ltb, leb-true, le-leb, and_parts, and_from, or_cases, or_left, or_right, false≢true}
 use Rattle.std.proofs.lemmas.Bool.Decides.{Decides-and}
@@ -60,10 +60,10 @@ module _ (p v : ℕ) where
         λ f. d.1 (f.variable, ((f.reads, f.writes), f.value)),
       )
 
-  pub decides_lanes : (ls : List (List Operation)) → Decides (lanes_fit p v ls) (All (All (Fitting p v)) ls)
+  pub decides_lanes : (ls : List (List Operation)) → Decides (lanes_fit p v ls) (AllByRecursion (AllByRecursion (Fitting p v)) ls)
   decides_lanes ls = (
-    λ e. All-weaker (λ l. lane_fits p v l ≡ true) (All (Fitting p v)) (λ l h. All-weaker (λ o. fitting p v o ≡ true) (Fitting p v) (λ o. (decides_fitting o).0) l ((lane_fits_all p v l).0 h)) ls ((lanes_fit_all p v ls).0 e),
-    λ a. (lanes_fit_all p v ls).1 (All-weaker (All (Fitting p v)) (λ l. lane_fits p v l ≡ true) (λ l h. (lane_fits_all p v l).1 (All-weaker (Fitting p v) (λ o. fitting p v o ≡ true) (λ o. (decides_fitting o).1) l h)) ls a),
+    λ e. All-weaker (λ l. lane_fits p v l ≡ true) (AllByRecursion (Fitting p v)) (λ l h. All-weaker (λ o. fitting p v o ≡ true) (Fitting p v) (λ o. (decides_fitting o).0) l ((lane_fits_all p v l).0 h)) ls ((lanes_fit_all p v ls).0 e),
+    λ a. (lanes_fit_all p v ls).1 (All-weaker (AllByRecursion (Fitting p v)) (λ l. lane_fits p v l ≡ true) (λ l h. (lane_fits_all p v l).1 (All-weaker (Fitting p v) (λ o. fitting p v o ≡ true) (λ o. (decides_fitting o).1) l h)) ls a),
   )
 
 pub well_formed : (t : Table) → WellFormed (trace_of t)
@@ -73,5 +73,5 @@ well_formed t =
       processors = subst (Within 1 8) (sym e) t.peopled;
       variables = t.varied;
       few = omega (arith, t.room, t.counted);
-      operations = subst (λ p. All (All (Fitting p t.variables)) (trace_of t).lanes) (sym e) ((decides_lanes t.processors t.variables (trace_of t).lanes).0 t.fit);
+      operations = subst (λ p. AllByRecursion (AllByRecursion (Fitting p t.variables)) (trace_of t).lanes) (sym e) ((decides_lanes t.processors t.variables (trace_of t).lanes).0 t.fit);
     }

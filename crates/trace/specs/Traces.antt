@@ -1,7 +1,7 @@
 -- A trace as a plain value: how many variables there are, and a lane of operations for each processor.
 -- Rests on operations alone; no type of the code's table is named here.
 use Rattle.std.specs.Prelude.{◌≡◌, ℕ, zero, suc, ◌<◌, ◌≤◌, Bool, true, ◌&&◌, ◌⊎◌, List, [], ◌∷◌, ◌++◌, length, replicate, is_some, Some, None, sum_by, Option, slice_index_or}
-use Rattle.std.specs.List.{AllByRecursion as All, slice_get}
+use Rattle.std.specs.List.{AllByRecursion, slice_get}
 use Rattle.trace.specs.declared.operation.Operation.{Operation}
 use Rattle.trace.specs.Operations.{is_read, is_write, processor_of, position_of, capacity, Within, Fitting, fitting}
 
@@ -52,7 +52,7 @@ pub record WellFormed (t : Trace) : Type 0 where
   pub processors : Within 1 8 (processor_count t)
   pub variables : Within 1 16 t.variables
   pub few : operation_count t ≤ capacity
-  pub operations : All (All (Fitting (processor_count t) t.variables)) t.lanes
+  pub operations : AllByRecursion (AllByRecursion (Fitting (processor_count t) t.variables)) t.lanes
 
 -- the tests that each operation of a lane, and of all lanes, has its fields in range
 abbrev pub lane_fits : ℕ → ℕ → List Operation → Bool

@@ -1,6 +1,6 @@
 -- The file of a well-formed trace is read, and gives that trace.
 use Rattle.std.proofs.Common.{◌≡◌, ℕ, suc, ◌+◌, ◌^◌, ◌<◌, ◌≤◌, true, ◌&&◌, eqb, ltb, List, [], ◌∷◌, ◌++◌, length, replicate, is_some, sum_by, sym, refl, ap, ◌∙◌, subst, ⊎_elim, arith}
-use Rattle.std.specs.List.{flat_map, AllByRecursion as All}
+use Rattle.std.specs.List.{flat_map, AllByRecursion}
 use Rattle.std.proofs.ByRecursion.{All-get_or, All-append, All-take}
 use Rattle.std.proofs.lemmas.List.{append-nil, append_assoc, length-append, length_push, length-replicate, get_or_at, take_at}
 use Rattle.std.proofs.lemmas.List.Sums.{sum_by-append, sum_by-cons}
@@ -84,7 +84,7 @@ good_begun : (p v : ℕ) (whole : List (List Operation)) (lane : List Operation)
 good_begun p v whole lane later g =
     let P : List Operation → Type 0 = λ l. lane_fits p v l ≡ true in
     let all = (lanes_fit_all p v (whole ++ lane ∷ later)).0 g.fit in
-    let first = subst (All (λ l. lane_fits p v l ≡ true)) (take_at whole (lane ∷ later) (length whole) refl) (All-take (λ l. lane_fits p v l ≡ true) (length whole) (whole ++ lane ∷ later) all) in
+    let first = subst (AllByRecursion (λ l. lane_fits p v l ≡ true)) (take_at whole (lane ∷ later) (length whole) refl) (All-take (λ l. lane_fits p v l ≡ true) (length whole) (whole ++ lane ∷ later) all) in
     let here = subst (λ l. lane_fits p v l ≡ true) (get_or_at whole lane later lane (length whole) refl) (All-get_or (λ l. lane_fits p v l ≡ true) (whole ++ lane ∷ later) (length whole) lane (omega (arith, length-append whole (lane ∷ later))) all) in
     let none = (lanes_fit_all p v (replicate (length later) [])).0 (fits_none p v (length later)) in
     record {

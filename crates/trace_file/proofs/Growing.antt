@@ -1,6 +1,6 @@
 -- The trace that has been told, and how it grows by one operation.
 use Rattle.std.proofs.Common.{◌≡◌, ℕ, ◌+◌, ◌-◌, ◌^◌, ◌<◌, ◌≤◌, true, ltb, List, [], ◌∷◌, ◌++◌, length, get_or, set, replicate, is_some, sum_by, sym, refl, ap, ◌∙◌, subst, arith}
-use Rattle.std.specs.List.{AllByRecursion as All}
+use Rattle.std.specs.List.{AllByRecursion}
 use Rattle.std.proofs.lemmas.List.{length-set, length_push, length-append, get_or_at, set_at}
 use Rattle.std.proofs.lemmas.List.Sums.{sum_by-set}
 use Rattle.std.proofs.lemmas.Bool.{ltb-true, lt-ltb, and_from}
@@ -28,7 +28,7 @@ good_formed p v lanes wp wv g =
       processors = subst (Within 1 8) (sym g.count) wp;
       variables = wv;
       few = g.few;
-      operations = subst (λ n. All (All (Fitting n v)) lanes) (sym g.count) ((decides_lanes p v lanes).0 g.fit);
+      operations = subst (λ n. AllByRecursion (AllByRecursion (Fitting n v)) lanes) (sym g.count) ((decides_lanes p v lanes).0 g.fit);
     }
 
 pub formed_good : (t : Trace) → WellFormed t → Good (processor_count t) t.variables t.lanes
