@@ -46,9 +46,9 @@ module _ (m : Meaning) (calls : List Call) (answers : List Played) (s : State) (
   -- a call that changes nothing of the judge
   going_told : (c : Call) (u : State) → u ≡ s → is_judge c ≡ false → changes (trace_after calls) c ≡ false → after (trace_after calls) c ≡ trace_after calls
       → Right m calls c a → Going m (calls ++ c ∷ []) (answers ++ a ∷ []) u
-  going_told c u e not-judge quiet same right =
+  going_told c u e not_judge quiet same right =
       going_more c u right (ap (λ x. x.trace) e ∙ g.trace ∙ sym same)
-      (subst (λ x. Keeps m (calls ++ c ∷ []) x.standing) (sym e) (keeps_on m calls c (λ j _. other c not-judge j) quiet same s.standing g.keeps))
+      (subst (λ x. Keeps m (calls ++ c ∷ []) x.standing) (sym e) (keeps_on m calls c (λ j _. other c not_judge j) quiet same s.standing g.keeps))
 
   change_more : (c : Change) (u : State) → Changing s c a u → Going m (calls ++ call.Change c ∷ []) (answers ++ a ∷ []) u
   change_more c u h =

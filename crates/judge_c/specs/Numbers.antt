@@ -1,5 +1,5 @@
 -- The number that the C function answers. Rests on what the calls of a judge answer, and on the letters.
-use Rattle.std.specs.Prelude.{◌≡◌, cond, List, ℕ, ◌+◌, ◌*◌, eqb}
+use Rattle.std.specs.Prelude.{◌≡◌, cond, List, ℕ, ◌+◌, ◌*◌, ◌==◌}
 use Rattle.trace.specs.Traces.{Trace, empty_trace}
 use Rattle.trace_file.specs.Reading.{read_file, load_answer, load_after}
 use Rattle.models.specs.Meaning.{Meaning}
@@ -9,7 +9,7 @@ use Rattle.judge.specs.Answers.{Judged}
 
 -- an answer as one number: the value of an accepted call, else 1000 times the refusal, and the place
 abbrev pub one_number : ℕ × ℕ → ℕ
-one_number answer = cond (eqb answer.0 0) answer.1 (1000 * answer.0 + answer.1)
+one_number answer = cond (answer.0 == 0) answer.1 (1000 * answer.0 + answer.1)
 
 -- the trace that a file leaves on a fresh judge
 abbrev pub trace_in : List ℕ → Trace

@@ -12,20 +12,20 @@ in_front start rest front back x y e lt =
     sym (get_or_at start x rest 0 (length start) refl) ∙ ap (λ l. get_or l (length start) 0) e ∙ get_or_append_left front (y ∷ back) 0 (length start) lt
 
 -- two lists do not each have the lower number at the first place that differs
-lower_once : (list other start rest other_rest front back other-back : List ℕ) (lower higher low high : ℕ)
+lower_once : (list other start rest other_rest front back other_back : List ℕ) (lower higher low high : ℕ)
     → list ≡ start ++ lower ∷ rest → other ≡ start ++ higher ∷ other_rest → lower < higher
-    → other ≡ front ++ low ∷ other-back → list ≡ front ++ high ∷ back → low < high → ⊥
-lower_once list other start rest other_rest front back other-back lower higher low high l o lt o' l' lt' =
+    → other ≡ front ++ low ∷ other_back → list ≡ front ++ high ∷ back → low < high → ⊥
+lower_once list other start rest other_rest front back other_back lower higher low high l o lt o' l' lt' =
     ⊎_elim
     (λ shorter.
     let a = in_front start rest front back lower high (sym l ∙ l') shorter in
-    let b = in_front start other_rest front other-back higher low (sym o ∙ o') shorter in
+    let b = in_front start other_rest front other_back higher low (sym o ∙ o') shorter in
     omega (arith, lt, a ∙ sym b))
     (⊎_elim
-    (λ same. omega (arith, lt, lt', same_place start rest front back lower high (sym l ∙ l') same, same_place start other_rest front other-back higher low (sym o ∙ o') same))
+    (λ same. omega (arith, lt, lt', same_place start rest front back lower high (sym l ∙ l') same, same_place start other_rest front other_back higher low (sym o ∙ o') same))
     (λ longer.
     let a = in_front front back start rest high lower (sym l' ∙ l) longer in
-    let b = in_front front other-back start other_rest low higher (sym o' ∙ o) longer in
+    let b = in_front front other_back start other_rest low higher (sym o' ∙ o) longer in
     omega (arith, lt', a ∙ sym b)))
     (compare (length start) (length front))
 

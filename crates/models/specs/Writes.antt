@@ -1,10 +1,9 @@
 -- Which models have views that each hold every write: two base models, and each layer over such a model.
-use Rattle.std.proofs.Common.{arith}
+use Rattle.std.proofs.Common.{inr, arith}
 use Rattle.models.specs.Growth.{is_there}
 use Rattle.models.specs.Meaning.{Meaning}
 use Rattle.models.specs.Bases.{sequential, pram}
 use Rattle.models.specs.Layers.{write_into, agreement, HoldsWrites}
-use Rattle.std.proofs.Common.{inr}
 
 pub sequential_every : HoldsWrites sequential
 sequential_every t k i view write = record { view = omega (arith, view.0, view.1); there = is_there t i write.0 write.1 }

@@ -11,10 +11,10 @@ use Rattle.orders.proofs.Places.{not_parted, stands_earlier, earlier_stands}
 use Rattle.orders.proofs.Agreement.{agrees_both}
 
 -- a view with something in it is one of those that there are
-get_d_there : (lists : List (List ℕ)) (n : ℕ) (front back : List ℕ) (j : ℕ) → get_or lists n [] ≡ front ++ j ∷ back → n < length lists
-get_d_there [] n front back j e = absurd (not_parted front back j e)
-get_d_there (list ∷ lists) zero front back j e = omega arith
-get_d_there (list ∷ lists) (suc n) front back j e = let g = get_d_there lists n front back j e in omega arith
+get_or_there : (lists : List (List ℕ)) (n : ℕ) (front back : List ℕ) (j : ℕ) → get_or lists n [] ≡ front ++ j ∷ back → n < length lists
+get_or_there [] n front back j e = absurd (not_parted front back j e)
+get_or_there (list ∷ lists) zero front back j e = omega arith
+get_or_there (list ∷ lists) (suc n) front back j e = let g = get_or_there lists n front back j e in omega arith
 
 module _ (m : Meaning) (laws : Laws m) (t : Trace) where
   -- a start of orders that meet the model
@@ -23,7 +23,7 @@ module _ (m : Meaning) (laws : Laws m) (t : Trace) where
     placed : (k : ℕ) → k ≤ suc (length orders) → (front back : List ℕ) (j : ℕ) → view_at whole k ≡ front ++ j ∷ back → Placed m t orders k front j
     placed zero le front back j e = absurd (not_parted front back j e)
     placed (suc k) le front back j e =
-        let there = get_d_there whole k front back j e in
+        let there = get_or_there whole k front back j e in
         let view : View m t (suc k) = (omega arith, omega (arith, there, meets.count)) in
         let good = meets.each (suc k) view in
         let here = good.exact.only j (record { before = front; after = back; is = e }) in

@@ -74,8 +74,8 @@ module _ (m : Meaning) (t : Trace) (b : Tested m t) (k : ℕ) (list : List ℕ) 
     -- the source of a read stands before that of a later one of the same variable
     pub sources_lower : (q : Operation) → Is t i q → is_read q ≡ true → (q.source ≡ 0 → ⊥) → (q.source ≡ r.source → ⊥)
         → writes_to t r.variable q.source ≡ true → b.test k q.source ≡ true → place list q.source < place list r.source
-    sources_lower q is-q reads-q start ne writes hw =
-        write_lower j r is reads hj q.source writes hw ne (omega (arith, source_lower i q is-q reads-q hi start, order_lower i j p hi hj))
+    sources_lower q is_q reads_q start ne writes hw =
+        write_lower j r is reads hj q.source writes hw ne (omega (arith, source_lower i q is_q reads_q hi start, order_lower i j p hi hj))
 
 -- views that agree have two writes of one variable at places that rise alike
 module _ (m : Meaning) (t : Trace) (b : Tested (agreement m) t) (orders : List (List ℕ)) (meets : Meets (agreement m) t orders) where

@@ -59,7 +59,7 @@ pub record Row : Type 1 where
 abbrev pub row : Trace → Meaning → Verdict → Row
 row t m v = record { trace = t; model = m; verdict = v }
 
--- the worked verdicts; `writeInto pram` is causal consistency, and `agreement pram` is Goodman's processor consistency
+-- the worked verdicts; `write_into pram` is causal consistency, and `agreement pram` is Goodman's processor consistency
 abbrev pub table : List Row
 table =
     row store_buffering sequential illegal

@@ -59,10 +59,10 @@ module _ (m : Meaning) (laws : Laws m) (t : Trace) (facts : Numbers t) (tables :
         full (suc k) i w h =
             let l : k < tables.views = omega (arith, w.1, count) in
             let r = facts.every i (laws.held t (suc k) i h).1 in
-            let has-it = holds_has m laws t facts tables good k l r.0 r.1.within (subst (m.holds t (suc k)) (sym r.1.at) h) in
-            let in-it = fills.full k (omega (arith, l, views_long tables)) r.0 (ap (λ v. has v r.0) (view_at_place tables k l) ∙ has-it) in
+            let has_it = holds_has m laws t facts tables good k l r.0 r.1.within (subst (m.holds t (suc k)) (sym r.1.at) h) in
+            let in_it = fills.full k (omega (arith, l, views_long tables)) r.0 (ap (λ v. has v r.0) (view_at_place tables k l) ∙ has_it) in
             subst (Stands (view_at (numbered t lists) (suc k))) r.1.at
-            (subst (λ z. Stands z (number_at (numbers t) r.0)) (sym (numbered_at t lists k)) (stands_map (number_at (numbers t)) (get_or lists k []) r.0 (in_stands (get_or lists k []) r.0 in-it)))
+            (subst (λ z. Stands z (number_at (numbers t) r.0)) (sym (numbered_at t lists k)) (stands_map (number_at (numbers t)) (get_or lists k []) r.0 (in_stands (get_or lists k []) r.0 in_it)))
 
   pub fills_meet : (lists : List (List ℕ)) → FillsAll tables (asks tables.before) (views_of tables) lists → Meets m t (numbered t lists)
   fills_meet lists w =
@@ -90,10 +90,10 @@ module _ (m : Meaning) (laws : Laws m) (t : Trace) (facts : Numbers t) (tables :
               (numbered_at t lists k ∙ ap (map (number_at (numbers t))) e ∙ map-append (number_at (numbers t)) before (j ∷ after)))));
           full = λ k below i h.
               let l : k < tables.views = omega (arith, below, views_long tables) in
-              let has-it = ap (λ v. has v i) (sym (view_at_place tables k l)) ∙ h in
+              let has_it = ap (λ v. has v i) (sym (view_at_place tables k l)) ∙ h in
               stands_in (get_or lists k []) i
-              (rank_stands t facts (get_or lists k []) i (ranked k) (has_rank m laws t facts tables good k l i has-it)
-              (subst (λ z. Stands z (number_at (numbers t) i)) (numbered_at t lists k) (stands.full (suc k) (number_at (numbers t) i) (within k l) (has_holds m laws t facts tables good k l i has-it))));
+              (rank_stands t facts (get_or lists k []) i (ranked k) (has_rank m laws t facts tables good k l i has_it)
+              (subst (λ z. Stands z (number_at (numbers t) i)) (numbered_at t lists k) (stands.full (suc k) (number_at (numbers t) i) (within k l) (has_holds m laws t facts tables good k l i has_it))));
         }
 
   -- ranks for numbers that are there

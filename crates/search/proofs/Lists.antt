@@ -1,4 +1,4 @@
--- Ranks in a list: `isIn` and `precedes` of a list that grows, and where such ranks stand.
+-- Ranks in a list: `is_in` and `precedes` of a list that grows, and where such ranks stand.
 use Rattle.std.proofs.Common.{◌≡◌, ℕ, zero, suc, ◌<◌, Bool, true, false, ◌&&◌, ◌||◌, eqb, List, [], ◌∷◌, ◌++◌, length, get_or, sym, refl, ap, ◌∙◌, ⊎_elim, arith}
 use Rattle.std.proofs.lemmas.Bool.{cases_Bool, eqb-true, eqb-false, eq-eqb, ne_eqb, or_left, or_right}
 use Rattle.search.specs.Steps.{is_in, precedes}

@@ -225,6 +225,6 @@ module _ (tables : Tables) (needs : ℕ → ℕ → Bool) (view : OpSet) (s : Li
 
   -- no candidate is left
   pub stuck_all : (later : List OpSet) (candidates : OpSet) → Tried tables needs view s later rest candidates → Empty candidates → (Empty rest → ⊥) → Stuck tables needs view s later
-  stuck_all later candidates tried no-candidate some [] others w =
+  stuck_all later candidates tried no_candidate some [] others w =
       some (λ k. ⊎_elim {C = has rest k ≡ false} (λ e. absurd (not_full k e w.full)) (λ e. e) (cases_Bool (has rest k)))
-  stuck_all later candidates tried no-candidate some (k ∷ u) others w = tried.stuck k (left_of k w.goes.0) (no-candidate k) u others w
+  stuck_all later candidates tried no_candidate some (k ∷ u) others w = tried.stuck k (left_of k w.goes.0) (no_candidate k) u others w

@@ -81,10 +81,10 @@ module _ (tables : Tables) (view : View) (rest : OpSet) (placed : ℕ) (latest o
 
     -- a candidate that is not clear leads nowhere
     pub tried_not : (candidates' : OpSet) → ((k : ℕ) → has candidates' k ≡ (has candidates k && not (eqb k i))) → (Clear (operation_of tables.operations i) (row_at view.before i) rest latest → ⊥) → TriedHere tables view rest placed order candidates'
-    tried_not candidates' holds no-clear = tried_more candidates' i tried holds (λ u others w. no-clear (clear_placeable _ (asks view.before) _ _ _ _ ready.start i _ (tables.small i) (λ j k. asks view.before i j) w.goes.0))
+    tried_not candidates' holds no_clear = tried_more candidates' i tried holds (λ u others w. no_clear (clear_placeable _ (asks view.before) _ _ _ _ ready.start i _ (tables.small i) (λ j k. asks view.before i j) w.goes.0))
 
     -- the candidate is placed, and what was placed before is as it was
-    module _ (middle : List ℕ) (middle-long : length middle ≡ 1024) (same : take placed middle ≡ take placed order) (rest' : OpSet) (holds : (k : ℕ) → has rest' k ≡ (has rest k && not (eqb k i))) where
+    module _ (middle : List ℕ) (middle_long : length middle ≡ 1024) (same : take placed middle ≡ take placed order) (rest' : OpSet) (holds : (k : ℕ) → has rest' k ≡ (has rest k && not (eqb k i))) where
       front_long : length (take placed order) ≡ placed
       front_long = length-take-le placed order (omega (arith, ready.room))
 
@@ -106,9 +106,9 @@ module _ (tables : Tables) (view : View) (rest : OpSet) (placed : ℕ) (latest o
             room = omega (arith, ready.room, fewer);
           }
 
-      module _ (exit : List ℕ) (exit-long : length exit ≡ 1024) (kept : take (placed + 1) exit ≡ take (placed + 1) (set middle placed i)) where
+      module _ (exit : List ℕ) (exit_long : length exit ≡ 1024) (kept : take (placed + 1) exit ≡ take (placed + 1) (set middle placed i)) where
         leaves : Left exit (take placed order) placed i
-        leaves = left_more middle exit (take placed order) placed i same front_long (omega (arith, room_for_one)) (exit-long ∙ sym middle-long) kept
+        leaves = left_more middle exit (take placed order) placed i same front_long (omega (arith, room_for_one)) (exit_long ∙ sym middle_long) kept
 
         pub further_kept : take placed exit ≡ take placed order
         further_kept = leaves.kept
