@@ -12,6 +12,7 @@ mod sizes;
 mod step;
 mod strikes;
 
+// Takes the steps of each case on a fresh table.
 fn run(rt: &HostRuntime, cases: &[Case]) -> io::Result<()> {
     for (title, steps) in cases {
         println!(rt; "{title}")?;

@@ -29,6 +29,7 @@ pub enum Step {
 /// What a case shows, and its steps on a fresh table.
 pub type Case = (&'static str, &'static [Step]);
 
+// Records so many writes, and gives the last one's answer.
 fn writes(table: &mut Table, processor: u8, count: u8) -> (u8, u16) {
     let mut answer = (0, 0);
     for _ in 0..count {
@@ -37,34 +38,26 @@ fn writes(table: &mut Table, processor: u8, count: u8) -> (u8, u16) {
     answer
 }
 
-fn same(before: &Table, after: &Table) -> bool {
-    for processor in 1..9 {
-        if before.lane(processor) != after.lane(processor) {
-            return false;
-        }
-    }
-    before.processors() == after.processors()
-        && before.variables() == after.variables()
-        && before.total() == after.total()
-}
-
+// Tells how large a table is.
 fn look(rt: &HostRuntime, table: &Table) -> io::Result<()> {
-    let processors = table.processors();
-    let variables = table.variables();
-    let operations = table.total();
-    println!(rt; "{processors} processors, {variables} variables, {operations} operations")
+    println!(rt;
+        "{} processors, {} variables, {} operations",
+        table.processors(),
+        table.variables(),
+        table.total()
+    )
 }
 
+// Prints the operation of a number.
 fn look_at(rt: &HostRuntime, table: &Table, number: u16) -> io::Result<()> {
-    let operation = table.operation(number);
-    println!(rt; "{operation:?}")
+    println!(rt; "{:?}", table.operation(number))
 }
 
 // A refusal is followed by whether the table is as it was.
 fn tell(rt: &HostRuntime, answer: (u8, u16), before: &Table, after: &Table) -> io::Result<()> {
     match answer {
         (0, value) => println!(rt; "0 {value}"),
-        (refusal, value) if same(before, after) => println!(rt; "{refusal} {value}, unchanged"),
+        (refusal, value) if before == after => println!(rt; "{refusal} {value}, unchanged"),
         (refusal, value) => println!(rt; "{refusal} {value}, changed"),
     }
 }

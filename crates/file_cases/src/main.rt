@@ -54,28 +54,24 @@ const CHANGES: [(usize, u8, usize, u8); 36] = [
     (20, 2, 0, 3),
 ];
 
+// Prints what is read of a file.
 fn tell(rt: &HostRuntime, bytes: &[u8]) -> io::Result<()> {
     match read(bytes) {
-        Ok(table) => {
-            let operations = table.total();
-            println!(rt; "{operations} operations")
-        }
-        Err(fault) => {
-            let number = fault.number();
-            let place = fault.place();
-            println!(rt; "refused {number} at {place}")
-        }
+        Ok(table) => println!(rt; "{} operations", table.total()),
+        Err(fault) => println!(rt; "refused {} at {}", fault.number(), fault.place()),
     }
 }
 
+// Prints what is read of each start of the file.
 fn cuts(rt: &HostRuntime) -> io::Result<()> {
-    for length in 0..30usize {
+    for length in 0..=BASE.len() {
         print!(rt; "the first {length} bytes: ")?;
-        tell(rt, &BASE[0..length.min(29)])?;
+        tell(rt, &BASE[..length])?;
     }
     Ok(())
 }
 
+// The file with two bytes changed.
 fn changed(change: (usize, u8, usize, u8)) -> [u8; 29] {
     let (first, byte, second, other) = change;
     let mut bytes = BASE;
@@ -86,6 +82,7 @@ fn changed(change: (usize, u8, usize, u8)) -> [u8; 29] {
     bytes
 }
 
+// Prints what is read of the file with each change.
 fn changes(rt: &HostRuntime) -> io::Result<()> {
     for change in CHANGES {
         let (first, byte, second, other) = change;
@@ -96,8 +93,8 @@ fn changes(rt: &HostRuntime) -> io::Result<()> {
 }
 
 // A file with so many writes on each processor.
-fn writes(heap: Global, counts: &[u8]) -> Result<Vec<u8>, AllocError> {
-    let mut bytes = vec![in heap; (counts.len() % 256) as u8, 1]?;
+fn writes(alloc: Global, counts: &[u8]) -> Result<Vec<u8>, AllocError> {
+    let mut bytes = vec![in alloc; (counts.len() % 256) as u8, 1]?;
     for count in counts {
         bytes.push(*count)?;
         for _ in 0..*count {
@@ -107,6 +104,7 @@ fn writes(heap: Global, counts: &[u8]) -> Result<Vec<u8>, AllocError> {
     Ok(bytes)
 }
 
+// Prints what is read of such a file.
 fn tell_writes(rt: &HostRuntime, counts: &[u8]) -> anyhow::Result<()> {
     let bytes = writes(rt.alloc(), counts)?;
     print!(rt; "writes {counts:?}: ")?;

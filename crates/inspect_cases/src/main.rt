@@ -16,6 +16,7 @@ use trace::table::Table;
 // What was done to the orders, and the numbers that are put forward.
 type Case = (&'static str, &'static [u16]);
 
+// Prints what is found of some numbers.
 fn show<M: MemoryModel>(
     rt: &HostRuntime,
     model: &M,
@@ -27,6 +28,7 @@ fn show<M: MemoryModel>(
     println!(rt; "  {title}: {refusal} {value}")
 }
 
+// Prints what is found of the numbers of each case.
 fn run<M: MemoryModel>(
     rt: &HostRuntime,
     title: &str,
@@ -218,63 +220,38 @@ const ANYTHING: &[Case] = &[("anything", &[2, 101, 102])];
 fn cuts(rt: &HostRuntime) -> io::Result<()> {
     println!(rt; "store buffering under C, cut")?;
     for length in 0..BUFFERING.len() {
-        let (refusal, value) = inspect(&Coherent, &traces::store_buffering(), &BUFFERING[..length]);
+        let (refusal, value) = inspect(
+            &Coherent,
+            &worked_traces::store_buffering(),
+            &BUFFERING[..length],
+        );
         println!(rt; "  after {length}: {refusal} {value}")?;
     }
     Ok(())
 }
 
-// Traces that are not complete, and one that is.
+// Traces whose last read is of some variable, source and value; the last of them is complete.
 fn incomplete(rt: &HostRuntime) -> io::Result<()> {
-    run(
-        rt,
-        "a read of what is not there",
-        &Pram,
-        &traces::reading(1, 103, 1),
-        ANYTHING,
-    )?;
-    run(
-        rt,
-        "a read of a read",
-        &Pram,
-        &traces::reading(1, 102, 1),
-        ANYTHING,
-    )?;
-    run(
-        rt,
-        "a read of another variable",
-        &Pram,
-        &traces::reading(2, 101, 1),
-        ANYTHING,
-    )?;
-    run(
-        rt,
-        "a read of another value",
-        &Pram,
-        &traces::reading(1, 101, 2),
-        ANYTHING,
-    )?;
-    run(
-        rt,
-        "a read of another starting value",
-        &Pram,
-        &traces::reading(1, 0, 1),
-        ANYTHING,
-    )?;
-    run(
-        rt,
-        "a read of a write",
-        &Pram,
-        &traces::reading(1, 101, 1),
-        ANYTHING,
-    )
+    let reads = [
+        ("a read of what is not there", (1, 103, 1)),
+        ("a read of a read", (1, 102, 1)),
+        ("a read of another variable", (2, 101, 1)),
+        ("a read of another value", (1, 101, 2)),
+        ("a read of another starting value", (1, 0, 1)),
+        ("a read of a write", (1, 101, 1)),
+    ];
+    for (title, (variable, source, value)) in reads {
+        let table = traces::reading(variable, source, value);
+        run(rt, title, &Pram, &table, ANYTHING)?;
+    }
+    Ok(())
 }
 
-// A list of all 64 operations, rising.
+// A list of all 64 operations, rising: how many they are, and then their numbers.
 fn rising() -> [u16; 65] {
-    let mut numbers = [64u16; 65];
-    for place in 0..64 {
-        numbers[place + 1] = (100 * (place / 8 + 1) + place % 8 + 1) as u16;
+    let mut numbers = [64; 65];
+    for (place, number) in numbers[1..].iter_mut().enumerate() {
+        *number = (100 * (place / 8 + 1) + place % 8 + 1) as u16;
     }
     numbers
 }
@@ -287,15 +264,16 @@ fn swapped() -> [u16; 65] {
     numbers
 }
 
+// Prints what is found of lists of 64 operations.
 fn full(rt: &HostRuntime) -> io::Result<()> {
     println!(rt; "64 writes under S")?;
-    let table = traces::full();
+    let table = worked_traces::full();
     show(rt, &Sequential, &table, "rising", &rising())?;
     show(rt, &Sequential, &table, "the last two swapped", &swapped())
 }
 
 fn main(rt: HostRuntime) -> io::Result<()> {
-    let buffering = traces::store_buffering();
+    let buffering = worked_traces::store_buffering();
     run(
         &rt,
         "store buffering under C",
@@ -318,7 +296,7 @@ fn main(rt: HostRuntime) -> io::Result<()> {
         &buffering,
         BUFFERING_SEQUENTIAL,
     )?;
-    let readers = traces::opposite_readers();
+    let readers = worked_traces::opposite_readers();
     run(&rt, "opposite readers under P", &Pram, &readers, READERS)?;
     run(
         &rt,

@@ -12,7 +12,8 @@ use Rattle.judge.specs.Answers.{Judged, Saved, told, Untouched}
 use Rattle.judge.specs.Runs.{trace_after, accepted, changes}
 use Rattle.judge.specs.Law.{Right}
 use Rattle.judge.specs.States as states
-use Rattle.judge.specs.States.{State, fresh, Judging, Changing, Plays}
+use Rattle.judge.specs.Seen.{State}
+use Rattle.judge.specs.States.{fresh, Judging, Changing, Plays}
 use Rattle.judge.proofs.Standing.{after, trace_more, stands_none}
 use Rattle.judge.proofs.Following.{Follows, follows_more}
 use Rattle.judge.proofs.Keeping.{Keeps, is_judge, other, keeps_on, keeps_change, keeps_judge, viewed}

@@ -12,7 +12,8 @@ use Rattle.judge.specs.Answers as answers
 use Rattle.judge.specs.Answers.{Viewed}
 use Rattle.judge.specs.Runs.{trace_after, accepted, changes, Stands}
 use Rattle.judge.specs.States as states
-use Rattle.judge.specs.States.{State, Judging, Showing}
+use Rattle.judge.specs.Seen.{State}
+use Rattle.judge.specs.States.{Judging, Showing}
 use Rattle.judge.proofs.Refusals.{unchanged}
 use Rattle.judge.proofs.Standing.{after, trace_more, stands_new, Standing, judged, before, stands_keep, stands_last}
 

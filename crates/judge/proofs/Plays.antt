@@ -8,7 +8,8 @@ use Rattle.orders.specs.Inspecting.{Inspected}
 use Rattle.judge.specs.declared.calls.Call.{Call}
 use Rattle.judge.specs.declared.calls.Call.TheVariants as call
 use Rattle.judge.specs.Answers.{Saved}
-use Rattle.judge.specs.States.{State, replaced, Judging, Showing, Plays}
+use Rattle.judge.specs.Seen.{State}
+use Rattle.judge.specs.States.{replaced, Judging, Showing, Plays}
 
 module _ (m : Meaning) (s u : State) (given left : Call) (r : ℕ × ℕ) where
   -- the call comes to its answer, and to what it leaves

@@ -1,4 +1,5 @@
 pub mod Answers
 pub mod Runs
 pub mod Law
+pub mod Seen
 pub mod States

@@ -1,38 +1,19 @@
--- A judge as plain values, and what each call makes of them.
--- Rests on the rules of the trace's calls, on the first orders, and on the code's judge.
+-- What each call makes of the state of a judge.
+-- Rests on the rules of the trace's calls, on the first orders, and on a judge as contracts see it.
 use Rattle.std.specs.Prelude.{◌≡◌, ℕ, ◌<◌, ◌≤◌, cond, List, ◌++◌, length, drop, Some, None, vec_items, Option, ◌==◌}
 use Rattle.trace.specs.Operations.{Within}
 use Rattle.trace.specs.Traces.{Trace, Complete, empty_trace}
-use Rattle.trace.specs.Tables.{trace_of}
 use Rattle.trace.specs.Completeness.{completeness_answer}
 use Rattle.trace_file.specs.declared.changes.Change.{Change}
 use Rattle.trace_file.specs.Made.{change_answer, changed}
 use Rattle.models.specs.Meaning.{Meaning}
 use Rattle.orders.specs.Orders.{view_at, Legal, First}
 use Rattle.orders.specs.Inspecting.{Inspected}
-use Rattle.search.specs.declared.found.Orders.{Orders}
-use Rattle.search.specs.declared.found.NotShown.{NotShown}
-use Rattle.search.specs.declared.found.NotShown.TheVariants.{NoView, FewSlots}
-use Rattle.search.specs.Found.{orders_of}
-use Rattle.judge.specs.declared.judging.Judge as judging
 use Rattle.judge.specs.declared.calls.Call.{Call}
 use Rattle.judge.specs.declared.calls.Call.TheVariants as call
 use Rattle.judge.specs.declared.calls.Played.{Played}
+use Rattle.judge.specs.Seen.{State}
 use Rattle.judge.specs.Answers.{Saved, Untouched, Buffered}
-
--- a judge: the trace, and the first orders while a legal verdict stands
-pub record State : Type 0 where
-  pub trace : Trace
-  pub standing : Option (List (List ℕ))
-
--- the orders that are kept, if any
-abbrev pub kept_orders : Option Orders → Option (List (List ℕ))
-kept_orders None = None
-kept_orders (Some o) = Some (orders_of o)
-
--- what the code's judge stands for
-abbrev pub state_of : {M : Type 0} → judging.Judge M → State
-state_of j = record { trace = trace_of j.table; standing = kept_orders j.first }
 
 -- a judge just made: one processor, one variable, no operations, and no verdict stands
 abbrev pub fresh : State
@@ -48,11 +29,6 @@ pub data Judging (m : Meaning) (s : State) : ℕ × ℕ → State → Type 0 whe
   legal : Complete s.trace → (orders : List (List ℕ)) → First m s.trace orders
       → Judging m s (0, 1) (record { trace = s.trace; standing = Some orders })
   illegal : Complete s.trace → (Legal m s.trace → ⊥) → Judging m s (0, 0) (record { trace = s.trace; standing = None })
-
--- the refusal of a view whose list is not shown
-abbrev pub not_shown_number : NotShown → ℕ
-not_shown_number NoView = 13
-not_shown_number FewSlots = 14
 
 -- the answer to view k where such orders stand, and the slots after it
 pub data Showing (standing : Option (List (List ℕ))) (k : ℕ) (slots : List ℕ) : ℕ × ℕ → List ℕ → Type 0 where

@@ -31,7 +31,8 @@ pub enum Step {
 /// What a case shows, and its steps on a fresh judge.
 pub type Case = (&'static str, &'static [Step]);
 
-fn change_of(heap: Global, step: Step) -> anyhow::Result<Option<Change>> {
+// The change that a step makes, if it makes one.
+fn change_of(alloc: Global, step: Step) -> anyhow::Result<Option<Change>> {
     Ok(match step {
         Step::Size(processors, variables) => Some(Change::Size {
             processors,
@@ -53,31 +54,33 @@ fn change_of(heap: Global, step: Step) -> anyhow::Result<Option<Change>> {
         }),
         Step::Strike(processor) => Some(Change::Strike { processor }),
         Step::Load(bytes) => Some(Change::Load {
-            bytes: Vec::from_slice(heap, bytes)?,
+            bytes: Vec::from_slice(alloc, bytes)?,
         }),
         _ => None,
     })
 }
 
-fn call_of(heap: Global, step: Step) -> anyhow::Result<Call> {
-    if let Some(change) = change_of(heap, step)? {
+// The call that a step makes.
+fn call_of(alloc: Global, step: Step) -> anyhow::Result<Call> {
+    if let Some(change) = change_of(alloc, step)? {
         return Ok(Call::Change(change));
     }
     Ok(match step {
         Step::View(view, slots) => Call::View {
             view,
-            slots: vec![in heap; 9u16; slots]?,
+            slots: vec![in alloc; 9u16; slots]?,
         },
         Step::Inspect(numbers) => Call::Inspect {
-            numbers: Vec::from_slice(heap, numbers)?,
+            numbers: Vec::from_slice(alloc, numbers)?,
         },
         Step::Save(bytes) => Call::Save {
-            bytes: vec![in heap; 9u8; bytes]?,
+            bytes: vec![in alloc; 9u8; bytes]?,
         },
         _ => Call::Judge,
     })
 }
 
+// How many calls a step makes.
 fn count_of(step: Step) -> u8 {
     match step {
         Step::Writes(_, count) => count,
@@ -85,10 +88,9 @@ fn count_of(step: Step) -> u8 {
     }
 }
 
+// Prints the last answer of a step.
 fn show(rt: &HostRuntime, step: Step, played: &Played) -> io::Result<()> {
-    let refusal = played.refusal;
-    let value = played.value;
-    print!(rt; "  {step:?}: {refusal} {value}")?;
+    print!(rt; "  {step:?}: {} {}", played.refusal, played.value)?;
     match &played.call {
         Call::View { slots, .. } => {
             print!(rt; ":")?;
@@ -107,11 +109,12 @@ fn show(rt: &HostRuntime, step: Step, played: &Played) -> io::Result<()> {
     println!(rt)
 }
 
-fn script(heap: Global, steps: &[Step]) -> anyhow::Result<Vec<Call>> {
-    let mut calls = Vec::new(heap);
+// The calls of all steps.
+fn script(alloc: Global, steps: &[Step]) -> anyhow::Result<Vec<Call>> {
+    let mut calls = Vec::new(alloc);
     for step in steps {
         for _ in 0..count_of(*step) {
-            calls.push(call_of(heap, *step)?)?;
+            calls.push(call_of(alloc, *step)?)?;
         }
     }
     Ok(calls)
@@ -127,10 +130,10 @@ pub(crate) fn play<M: MemoryModel + Copy + Drop>(
     for (what, steps) in cases {
         println!(rt; "{what}, under {title}")?;
         let answers = run(rt.alloc(), model, script(rt.alloc(), steps)?)?;
-        let mut end = 0usize;
+        let mut later = answers.iter();
         for step in *steps {
-            end = end.saturating_add(usize::from(count_of(*step)));
-            if let Some(played) = answers.get(end.saturating_sub(1)) {
+            let count = usize::from(count_of(*step));
+            if let Some(played) = later.by_ref().take(count).last() {
                 show(rt, *step, played)?;
             }
         }

@@ -3,6 +3,7 @@ use Rattle.std.proofs.Common.{◌≡◌, ℕ, zero, suc, ◌<◌, false, cond, e
 use Rattle.std.specs.Global.{Vec}
 use Rattle.std.specs.List.{flat_map, slice_get}
 use Rattle.std.proofs.lemmas.Bool.{cond-false, ne_eqb, cases_Bool}
+use Rattle.std.proofs.lemmas.Option.{slice_get_within}
 use Rattle.trace.specs.Traces.{Trace, Complete, WellFormed, processor_count, empty_trace}
 use Rattle.trace.specs.Completeness.{completeness_answer}
 use Rattle.trace.proofs.Sources.{decides_complete}
@@ -21,7 +22,6 @@ use Rattle.judge.specs.Answers as answers
 use Rattle.judge.specs.Answers.{Judged, Viewed, told}
 use Rattle.judge.specs.Runs.{Stands}
 use Rattle.judge.specs.Law.{Law, Right}
-use Rattle.judge.proofs.Places.{nth_within}
 use Rattle.judge_text.specs.Lines.{refused_line, view_line, view_lines, illegal_text}
 use Rattle.judge_text.specs.Told as text
 use Rattle.judge_text.specs.Told.{FileTold}
@@ -57,7 +57,7 @@ module _ (m : Meaning) (laws : Laws m) (bytes : Vec ℕ) (views : List Call) (as
     answer : (n : ℕ) (a : Played) → slice_get rest n ≡ Some a → Answer n a
     answer n a e =
         let earlier = call.Change (Load bytes) ∷ call.Judge ∷ take n views in
-        let c = nth_some views n (omega (arith, nth_within rest n a e, law.each)) in
+        let c = nth_some views n (omega (arith, slice_get_within rest n a e, law.each)) in
         let v : AsksView (suc n) c.0 = subst (λ k. AsksView k c.0) (omega arith) (views_at 1 views asks n c.0 c.1) in
         let right : Right m earlier (call.View (suc n) v.slots) a = subst (λ d. Right m earlier d a) v.is (law.right (suc (suc n)) c.0 a c.1 e) in
         record {

@@ -12,15 +12,14 @@ use Rattle.orders.specs.Orders.{Legal}
 use Rattle.judge.specs.declared.calls.Call.{Call}
 use Rattle.judge.specs.declared.calls.Call.TheVariants as call
 use Rattle.judge.specs.Runs.{changes_in, trace_after, changes, Stands}
-use Rattle.judge.proofs.Places.{none_some, same_some}
 use Rattle.judge_text.specs.Asked.{AsksView, AskViews, Asked}
 
 views_more : (k : ℕ) (calls : List Call) (c : Call) → AskViews k calls → AsksView (k + length calls) c → AskViews k (calls ++ c ∷ [])
 views_more k [] c h v = (subst (λ j. AsksView j c) (omega arith) v, tt)
 views_more k (x ∷ calls) c h v = (h.0, views_more (suc k) calls c h.1 (subst (λ j. AsksView j c) (omega arith) v))
 
-pub asked_more : (file : List ℕ) (n : ℕ) (calls more : List Call) (c : Call) → Asked file n calls → AsksView (n + 1) c → more ≡ calls ++ c ∷ [] → Asked file (n + 1) more
-asked_more file n calls more c a v e =
+pub asked_more : (file : List ℕ) (n k next : ℕ) (calls more : List Call) (c : Call) → Asked file n calls → AsksView k c → k ≡ n + 1 → next ≡ k → more ≡ calls ++ c ∷ [] → Asked file next more
+asked_more file n k next calls more c a v at same e =
     record {
       bytes = a.bytes;
       loads = a.loads;
@@ -33,8 +32,8 @@ asked_more file n calls more c a v e =
 -- the calls for the views, looked at
 
 pub views_at : (k : ℕ) (calls : List Call) → AskViews k calls → (n : ℕ) (c : Call) → slice_get calls n ≡ Some c → AsksView (k + n) c
-views_at k [] h n c e = absurd (none_some c e)
-views_at k (x ∷ calls) h zero c e = subst (λ j. AsksView j c) (omega arith) (subst (AsksView k) (same_some x c e) h.0)
+views_at k [] h n c e = cc
+views_at k (x ∷ calls) h zero c e = let same : x ≡ c = cc in subst (λ j. AsksView j c) (omega arith) (subst (AsksView k) same h.0)
 views_at k (x ∷ calls) h (suc n) c e = subst (λ j. AsksView j c) (omega arith) (views_at (suc k) calls h.1 n c e)
 
 views_take : (k : ℕ) (calls : List Call) (n : ℕ) → AskViews k calls → AskViews k (take n calls)

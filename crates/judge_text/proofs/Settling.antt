@@ -1,7 +1,6 @@
 -- An input has one text.
-use Rattle.std.proofs.Common.{◌≡◌, ℕ, cond, eqb, List, [], ◌∷◌, ◌++◌, sum, sym, refl, ap, ◌∙◌, subst, arith}
+use Rattle.std.proofs.Common.{◌≡◌, ℕ, cond, eqb, List, [], ◌∷◌, ◌++◌, sum, sym, refl, ap, ◌∙◌, subst}
 use Rattle.trace.specs.Traces.{Trace, Complete}
-use Rattle.trace.specs.Completeness.{completeness_answer}
 use Rattle.trace_file.specs.Reading as reading
 use Rattle.models.specs.Meaning.{Meaning}
 use Rattle.orders.specs.Orders.{Legal, First}
@@ -9,34 +8,28 @@ use Rattle.orders.proofs.Places.{all_parted}
 use Rattle.letters.specs.declared.Letters.{Letters}
 use Rattle.letters.specs.declared.Letters.TheVariants.{S, C, P, FS, FC, FP, AS, AP, AFS, AFP}
 use Rattle.letters.specs.Names as names
-use Rattle.judge_text.specs.Lines.{refused_line, legal_text}
+use Rattle.judge_text.specs.Lines.{legal_text}
 use Rattle.judge_text.specs.Told.{FileTold, faulty, incomplete, illegal, legal, Unended, Parted, unended, unnamed, named, Settled}
 use Rattle.judge_text.proofs.Unique.{first_unique}
 
 -- a file has one text under a model
-never_both : (t : Trace) (n place : ℕ) → reading.good t ≡ reading.faulty n place → ⊥
-never_both t n place e = let z : ◌≡◌ {A = ℕ} 0 1 = cc in omega arith
-
 same_trace : (t u : Trace) → reading.good t ≡ reading.good u → t ≡ u
 same_trace t u e = cc
 
-same_fault : (n place k other : ℕ) → reading.faulty n place ≡ reading.faulty k other → (n ≡ k) × (place ≡ other)
-same_fault n place k other e = (cc, cc)
-
 file_once : (m : Meaning) (file one other : List ℕ) → FileTold m file one → FileTold m file other → one ≡ other
-file_once m file _ _ (faulty n place e) (faulty k other d) = let h = same_fault n place k other (sym e ∙ d) in λ i. refused_line (h.0 i) (h.1 i)
-file_once m file _ _ (faulty n place e) (incomplete u d not) = absurd (never_both u n place (sym d ∙ e))
-file_once m file _ _ (faulty n place e) (illegal u d complete none) = absurd (never_both u n place (sym d ∙ e))
-file_once m file _ _ (faulty n place e) (legal u d complete orders first) = absurd (never_both u n place (sym d ∙ e))
-file_once m file _ _ (incomplete t e not) (faulty n place d) = absurd (never_both t n place (sym e ∙ d))
-file_once m file _ _ (incomplete t e not) (incomplete u d nor) = ap (λ x. refused_line (completeness_answer x).0 (completeness_answer x).1) (same_trace t u (sym e ∙ d))
+file_once m file _ _ (faulty n place e) (faulty k other d) = cc
+file_once m file _ _ (faulty n place e) (incomplete u d not) = cc
+file_once m file _ _ (faulty n place e) (illegal u d complete none) = cc
+file_once m file _ _ (faulty n place e) (legal u d complete orders first) = cc
+file_once m file _ _ (incomplete t e not) (faulty n place d) = cc
+file_once m file _ _ (incomplete t e not) (incomplete u d nor) = cc
 file_once m file _ _ (incomplete t e not) (illegal u d complete none) = absurd (not (subst Complete (same_trace u t (sym d ∙ e)) complete))
 file_once m file _ _ (incomplete t e not) (legal u d complete orders first) = absurd (not (subst Complete (same_trace u t (sym d ∙ e)) complete))
-file_once m file _ _ (illegal t e complete none) (faulty n place d) = absurd (never_both t n place (sym e ∙ d))
+file_once m file _ _ (illegal t e complete none) (faulty n place d) = cc
 file_once m file _ _ (illegal t e complete none) (incomplete u d not) = absurd (not (subst Complete (same_trace t u (sym e ∙ d)) complete))
 file_once m file _ _ (illegal t e complete none) (illegal u d full nothing) = refl
 file_once m file _ _ (illegal t e complete none) (legal u d full orders first) = absurd (none (subst (Legal m) (same_trace u t (sym d ∙ e)) (orders, first.meets)))
-file_once m file _ _ (legal t e complete orders first) (faulty n place d) = absurd (never_both t n place (sym e ∙ d))
+file_once m file _ _ (legal t e complete orders first) (faulty n place d) = cc
 file_once m file _ _ (legal t e complete orders first) (incomplete u d not) = absurd (not (subst Complete (same_trace t u (sym e ∙ d)) complete))
 file_once m file _ _ (legal t e complete orders first) (illegal u d full none) = absurd (none (subst (Legal m) (same_trace t u (sym e ∙ d)) (orders, first.meets)))
 file_once m file _ _ (legal t e complete orders first) (legal u d full others h) =

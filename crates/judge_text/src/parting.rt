@@ -6,10 +6,7 @@ ghost use Rattle.judge_text.specs.Told.{Unended, Parted};
 pub(crate) fn parted(input: &[u8]) -> Option<(&[u8], &[u8])>
     ensures { MatchOption result (Unended input.now) (λ p. Parted input.now p.0.now p.1.now) }
 {
-    for place in 0..input.len() {
-        if input[place] == 10 {
-            return Some((&input[..place], &input[place + 1..]));
-        }
-    }
-    None
+    let place = input.iter().position(|byte| *byte == 10)?;
+    let (letters, rest) = input.split_at(place);
+    Some((letters, &rest[1..]))
 }

@@ -2,24 +2,37 @@
 //! Without an argument it does nothing, so that a run in the gate prints nothing.
 #![tactic(auto)]
 
-use models::agreement::Agreement;
-use models::coherent::Coherent;
+ghost use Rattle.std.specs.Prelude.{⊤};
+
+use letters::{Letters, Visitor};
 use models::model::MemoryModel;
-use models::pram::Pram;
-use models::sequential::Sequential;
-use models::write_into::WriteInto;
+use opset::OpSet;
 use std::env;
 use std::time::Instant;
 use trace::table::Table;
 
 const ROUNDS: u64 = 200;
 
+// The first is what the others are put beside.
+const MODELS: [Letters; 10] = [
+    Letters::S,
+    Letters::C,
+    Letters::P,
+    Letters::FS,
+    Letters::FC,
+    Letters::FP,
+    Letters::AS,
+    Letters::AP,
+    Letters::AFS,
+    Letters::AFP,
+];
+
 // Eight processors: each writes and reads in turn, and reads what its neighbour wrote.
 fn full() -> Table {
     let mut table = Table::new();
     let _ = table.size(8, 4);
     for position in 0..8u8 {
-        for processor in 1..9u8 {
+        for processor in 1..=8u8 {
             let variable = processor % 4 + 1;
             if position % 2 == 0 {
                 let _ = table.record(processor, 2, variable, 0, u32::from(position));
@@ -40,74 +53,69 @@ fn full() -> Table {
 
 // Fills every table, and counts what is in them, so that no table is left out.
 fn fill<M: MemoryModel>(model: &M, table: &Table) -> usize {
-    let mut members: usize = 0;
-    for view in 0..model.views(table.processors(), table.variables()) {
-        members = members.saturating_add(model.held(table, view.saturating_add(1)).len());
-    }
-    for row in model.before_rows(table) {
-        members = members.saturating_add(row.len());
-    }
-    for row in model.alike_rows(table) {
-        members = members.saturating_add(row.len());
-    }
-    members
+    let views = model.views(table.processors(), table.variables());
+    (1..=views)
+        .map(|view| model.held(table, view))
+        .chain(model.before_rows(table))
+        .chain(model.alike_rows(table))
+        .map(OpSet::len)
+        .fold(0, usize::saturating_add)
 }
 
-// Prints the time for a trace and for a table of it, and the ratio to the baseline; gives the time.
-fn measure<M: MemoryModel>(
-    rt: &HostRuntime,
-    name: &str,
-    model: &M,
-    table: &Table,
-    baseline: u64,
-) -> anyhow::Result<u64> {
-    let start = Instant::now(rt)?;
-    let mut members: usize = 0;
-    for _ in 0..ROUNDS {
-        members = members.wrapping_add(fill(model, table));
+// The filling of all tables of a trace, timed and put beside that of another model, if there is one.
+struct Measure<'a> {
+    rt: &'a HostRuntime,
+    letters: Letters,
+    table: &'a Table,
+    baseline: Option<u64>,
+}
+
+impl Visitor for Measure<'_> {
+    type Output = anyhow::Result<u64>;
+
+    ghost gives = { λ _ _ _. ⊤ };
+
+    // Prints the time for a trace and for a table of it, and the ratio to the baseline; gives the time.
+    fn visit<M: MemoryModel + Drop>(self, model: M) -> anyhow::Result<u64> {
+        let Measure {
+            rt,
+            letters,
+            table,
+            baseline,
+        } = self;
+        let start = Instant::now(rt)?;
+        let members = (0..ROUNDS)
+            .map(|_| fill(&model, table))
+            .fold(0, usize::wrapping_add);
+        let nanos = u64::try_from(start.elapsed(rt)?.as_nanos()).unwrap_or(u64::MAX);
+        let trace = nanos / ROUNDS;
+        let views = model.views(table.processors(), table.variables());
+        let per_table = trace
+            .checked_div(u64::from(views).saturating_add(2))
+            .unwrap_or(0);
+        let percent = trace
+            .saturating_mul(100)
+            .checked_div(baseline.unwrap_or(trace))
+            .unwrap_or(100);
+        println!(rt;
+            "{letters}: {trace} ns a trace, {per_table} ns a table, {percent} % of S, {members} members"
+        )?;
+        Ok(trace)
     }
-    let nanos = u64::try_from(start.elapsed(rt)?.as_nanos()).unwrap_or(u64::MAX);
-    let trace = nanos / ROUNDS;
-    let tables = u64::from(model.views(table.processors(), table.variables())).saturating_add(2);
-    let per_table = trace.checked_div(tables).unwrap_or(0);
-    let percent = trace
-        .saturating_mul(100)
-        .checked_div(baseline)
-        .unwrap_or(100);
-    println!(rt;
-        "{name}: {trace} ns a trace, {per_table} ns a table, {percent} % of S, {members} members"
-    )?;
-    Ok(trace)
 }
 
 fn run(rt: &HostRuntime) -> anyhow::Result<()> {
-    let table = full();
-    let s = measure(rt, "S", &Sequential, &table, 0)?;
-    measure(rt, "C", &Coherent, &table, s)?;
-    measure(rt, "P", &Pram, &table, s)?;
-    measure(rt, "FS", &WriteInto { below: Sequential }, &table, s)?;
-    measure(rt, "FC", &WriteInto { below: Coherent }, &table, s)?;
-    measure(rt, "FP", &WriteInto { below: Pram }, &table, s)?;
-    measure(rt, "AS", &Agreement { below: Sequential }, &table, s)?;
-    measure(rt, "AP", &Agreement { below: Pram }, &table, s)?;
-    measure(
-        rt,
-        "AFS",
-        &Agreement {
-            below: WriteInto { below: Sequential },
-        },
-        &table,
-        s,
-    )?;
-    measure(
-        rt,
-        "AFP",
-        &Agreement {
-            below: WriteInto { below: Pram },
-        },
-        &table,
-        s,
-    )?;
+    let table = &full();
+    let mut baseline = None;
+    for letters in MODELS {
+        let time = letters.visit(Measure {
+            rt,
+            letters,
+            table,
+            baseline,
+        })?;
+        baseline = baseline.or(Some(time));
+    }
     Ok(())
 }
 

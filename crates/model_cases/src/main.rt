@@ -6,13 +6,26 @@ mod telling;
 
 use crate::no_views::NoViews;
 use crate::telling::tell;
+use letters::{Letters, Visitor};
 use models::agreement::Agreement;
 use models::coherent::Coherent;
+use models::model::MemoryModel;
 use models::pram::Pram;
-use models::sequential::Sequential;
 use models::write_into::WriteInto;
 use std::io;
 use trace::table::Table;
+
+const BASES: [Letters; 3] = [Letters::S, Letters::C, Letters::P];
+
+const LAYERED: [Letters; 7] = [
+    Letters::FS,
+    Letters::FC,
+    Letters::FP,
+    Letters::AS,
+    Letters::AP,
+    Letters::AFS,
+    Letters::AFP,
+];
 
 // 101 writes x 1; 201 reads that, 202 writes y 1, 203 writes x 2; 301 reads 202, 302 reads x from the start.
 fn worked() -> Table {
@@ -39,40 +52,34 @@ fn unfit() -> Table {
     table
 }
 
-fn bases(rt: &HostRuntime, table: &Table) -> io::Result<()> {
-    tell(rt, "S", &Sequential, table)?;
-    tell(rt, "C", &Coherent, table)?;
-    tell(rt, "P", &Pram, table)?;
-    tell(rt, "no views", &NoViews, table)
+// Has the model of some letters tell about a trace.
+#[derive(Clone, Copy)]
+struct Tell<'a> {
+    rt: &'a HostRuntime,
+    letters: Letters,
+    table: &'a Table,
 }
 
-fn write_into(rt: &HostRuntime, table: &Table) -> io::Result<()> {
-    tell(rt, "FS", &WriteInto { below: Sequential }, table)?;
-    tell(rt, "FC", &WriteInto { below: Coherent }, table)?;
-    tell(rt, "FP", &WriteInto { below: Pram }, table)
+impl Visitor for Tell<'_> {
+    type Output = io::Result<()>;
+
+    ghost gives = { λ _ _ _. Unit {0} };
+
+    // Prints the answers of the model.
+    fn visit<M: MemoryModel + Drop>(self, model: M) -> io::Result<()> {
+        tell(self.rt, self.letters, &model, self.table)
+    }
 }
 
-fn agreement(rt: &HostRuntime, table: &Table) -> io::Result<()> {
-    tell(rt, "AS", &Agreement { below: Sequential }, table)?;
-    tell(rt, "AP", &Agreement { below: Pram }, table)?;
-    tell(
-        rt,
-        "AFS",
-        &Agreement {
-            below: WriteInto { below: Sequential },
-        },
-        table,
-    )?;
-    tell(
-        rt,
-        "AFP",
-        &Agreement {
-            below: WriteInto { below: Pram },
-        },
-        table,
-    )
+// Prints the answers of the models that some letters name.
+fn lettered(rt: &HostRuntime, all: &[Letters], table: &Table) -> io::Result<()> {
+    for letters in all.iter().copied() {
+        letters.visit(Tell { rt, letters, table })?;
+    }
+    Ok(())
 }
 
+// Prints the answers of models that have no letters.
 fn deep(rt: &HostRuntime, table: &Table) -> io::Result<()> {
     tell(
         rt,
@@ -99,10 +106,10 @@ fn deep(rt: &HostRuntime, table: &Table) -> io::Result<()> {
 
 fn main(rt: HostRuntime) -> io::Result<()> {
     let table = worked();
-    bases(&rt, &table)?;
-    write_into(&rt, &table)?;
-    agreement(&rt, &table)?;
+    lettered(&rt, &BASES, &table)?;
+    tell(&rt, "no views", &NoViews, &table)?;
+    lettered(&rt, &LAYERED, &table)?;
     deep(&rt, &table)?;
     println!(rt; "a trace that is not complete")?;
-    tell(&rt, "FS", &WriteInto { below: Sequential }, &unfit())
+    lettered(&rt, &[Letters::FS], &unfit())
 }

@@ -1,6 +1,8 @@
 //! Printing what a model answers.
 use models::model::MemoryModel;
+use opset::OpSet;
 use ranks::listing::Ranks;
+use std::fmt::Display;
 use std::io;
 use trace::table::Table;
 
@@ -12,7 +14,7 @@ const PROBES: [u16; 17] = [
 fn tell_views<M: MemoryModel>(rt: &HostRuntime, model: &M, table: &Table) -> io::Result<()> {
     let views = model.views(table.processors(), table.variables());
     println!(rt; "  views {views}")?;
-    for view in 0..views.saturating_add(2) {
+    for view in 0..=views.saturating_add(1) {
         print!(rt; "  view {view}:")?;
         for number in PROBES {
             if model.holds(table, view, number) {
@@ -24,23 +26,14 @@ fn tell_views<M: MemoryModel>(rt: &HostRuntime, model: &M, table: &Table) -> io:
     Ok(())
 }
 
-fn tell_before<M: MemoryModel>(rt: &HostRuntime, model: &M, table: &Table) -> io::Result<()> {
-    print!(rt; "  before:")?;
-    for first in PROBES {
-        for second in PROBES {
-            if model.before(table, first, second) {
-                print!(rt; " {first}-{second}")?;
-            }
-        }
-    }
-    println!(rt; "")
-}
-
-fn tell_alike<M: MemoryModel>(rt: &HostRuntime, model: &M, table: &Table) -> io::Result<()> {
-    print!(rt; "  alike:")?;
+// The pairs of numbers for which a question of two operations is answered with yes.
+fn tell_pairs<F: Fn(u16, u16) -> bool>(rt: &HostRuntime, name: &str, asks: F) -> io::Result<()>
+    requires { F.IsAlwaysCallable asks }
+{
+    print!(rt; "  {name}:")?;
     for one in PROBES {
         for other in PROBES {
-            if model.alike(table, one, other) {
+            if asks(one, other) {
                 print!(rt; " {one}-{other}")?;
             }
         }
@@ -48,37 +41,37 @@ fn tell_alike<M: MemoryModel>(rt: &HostRuntime, model: &M, table: &Table) -> io:
     println!(rt; "")
 }
 
-// How often a whole table and the question differ.
-fn differences<M: MemoryModel>(model: &M, table: &Table) -> usize {
-    let ranks = Ranks::of(table);
-    let before = model.before_rows(table);
-    let alike = model.alike_rows(table);
-    let mut count: usize = 0;
-    for rank in 0..64u8 {
-        for j in 0..64usize {
-            let (first, second) = (ranks.number(rank as usize), ranks.number(j));
-            if before[j].contains(rank) != model.before(table, first, second) {
-                count = count.saturating_add(1);
-            }
-            if alike[j].contains(rank) != model.alike(table, first, second) {
-                count = count.saturating_add(1);
-            }
-        }
-    }
-    count
+// How often the whole table of a question and the question differ.
+fn differences<F: Fn(u16, u16) -> bool>(ranks: &Ranks, rows: &[OpSet; 64], asks: F) -> usize
+    requires { F.IsAlwaysCallable asks }
+{
+    rows.iter()
+        .enumerate()
+        .map(|(j, row)| {
+            let second = ranks.number(j);
+            (0..64u8)
+                .filter(|i| row.contains(*i) != asks(ranks.number(usize::from(*i)), second))
+                .count()
+        })
+        .fold(0, usize::saturating_add)
 }
 
 /// Prints the answers of a model to the four questions.
 pub(crate) fn tell<M: MemoryModel>(
     rt: &HostRuntime,
-    name: &str,
+    name: impl Display + Drop,
     model: &M,
     table: &Table,
 ) -> io::Result<()> {
     println!(rt; "{name}")?;
     tell_views(rt, model, table)?;
-    tell_before(rt, model, table)?;
-    tell_alike(rt, model, table)?;
-    let count = differences(model, table);
+    let before = |first, second| model.before(table, first, second);
+    let alike = |one, other| model.alike(table, one, other);
+    tell_pairs(rt, "before", before)?;
+    tell_pairs(rt, "alike", alike)?;
+    let ranks = Ranks::of(table);
+    let of_before = differences(&ranks, &model.before_rows(table), before);
+    let of_alike = differences(&ranks, &model.alike_rows(table), alike);
+    let count = of_before.saturating_add(of_alike);
     println!(rt; "  differences {count}")
 }

@@ -1,10 +1,10 @@
 -- Warshall's closure, over tests: what is reached through ranks below n, and then through any rank.
-use Rattle.std.proofs.Common.{◌≡◌, ℕ, zero, suc, ◌+◌, ◌<◌, ◌≤◌, Bool, true, ◌&&◌, ◌||◌, ◌⊎◌, List, length, Decides, sym, refl, ap, ◌∙◌, subst, inl, inr, ⊎_elim, arith}
+use Rattle.std.proofs.Common.{◌≡◌, ℕ, zero, suc, ◌<◌, ◌≤◌, Bool, true, ◌&&◌, ◌||◌, ◌⊎◌, List, length, Decides, sym, subst, inl, inr, ⊎_elim, arith}
 use Rattle.std.proofs.lemmas.Bool.Decides.{Decides-at}
 use Rattle.std.proofs.lemmas.Bool.{cases_eq, or_cases, or_left, or_right, and_parts, and_from}
 use Rattle.opset.specs.declared.OpSet.{OpSet}
 use Rattle.opset.specs.Sets.{has}
-use Rattle.models.specs.Rows.{row_at, Edge, Passed, Closed}
+use Rattle.models.specs.Rows.{row_at, Edge, Closed}
 use Rattle.models.specs.Chains.{Chain, one, more, chained}
 
 module _ (rows : List OpSet) where
@@ -60,20 +60,6 @@ module _ (rows : List OpSet) where
   pub record Reaching (n : ℕ) (now : List OpSet) : Type 0 where
     pub long : length now ≡ length rows
     pub each : (i j : ℕ) → i < 64 → j < 64 → has (row_at now j) i ≡ reached n i j
-
-  pub reaching_starts : Reaching 0 rows
-  reaching_starts = record { long = refl; each = λ i j li lj. refl }
-
-  pub reaching_again : (n : ℕ) (now after : List OpSet) → n < 64 → Reaching n now → Passed now n after → Reaching (n + 1) after
-  reaching_again n now after h r p =
-      let same : suc n ≡ n + 1 = omega arith in
-      record {
-        long = p.long ∙ r.long;
-        each = λ i j li lj.
-            p.each i j li lj
-            ∙ (λ k. r.each i j li lj k || (r.each n j h lj k && r.each i n li h k))
-            ∙ ap (λ m. reached m i j) same;
-      }
 
   pub reaching_all : (n : ℕ) (now : List OpSet) → n ≡ 64 → Reaching n now → Closed rows now
   reaching_all n now e r i j li lj = Decides-at _ (reached n i j) (r.each i j li lj) (decides_chain n i j e li lj)

@@ -1,76 +1,71 @@
--- A row that is filled rank after rank.
-use Rattle.std.proofs.Common.{◌≡◌, ℕ, ◌+◌, ◌<◌, ◌≤◌, Bool, true, false, ◌&&◌, ◌||◌, eqb, ltb, List, length, get_or, set, Decides, sym, ◌∙◌, subst, ⊎_elim, arith}
-use Rattle.std.proofs.lemmas.List.{length-set, get_or-set_same, get_or-set_other}
-use Rattle.std.proofs.lemmas.Bool.{both_ways, cases_eq, eqb-true, eq-eqb, lt-ltb, or_cases, or_left, or_right, and_parts, and_from}
+-- A set that is filled rank after rank, and a table that is made of a row for each.
+use Rattle.std.proofs.Common.{◌≡◌, ℕ, zero, suc, ◌+◌, ◌<◌, ◌≤◌, Bool, true, false, ◌&&◌, ◌||◌, eqb, ltb, List, [], ◌∷◌, Bor, get_or, sym, refl, ap, ◌∙◌, subst, ⊎_elim, arith}
+use Rattle.std.proofs.iter.Yields.{nat_range_steps}
+use Rattle.std.proofs.lemmas.Grind.{common_steps}
+use Rattle.std.specs.declared.ops.Range.{Range}
+use Rattle.std.specs.Iterator.{Yields, Drains, FoldTurn, FoldsItems}
+use Rattle.std.specs.declared.iter.Filter.{Filter}
+use Rattle.std.specs.Iterator.Adapters.{filter_source, filter_callee, filter_steps}
+use Rattle.std.specs.List.{FoldsTo}
+use Rattle.std.proofs.lemmas.Bool.{cases_eq, lt-ltb}
+use Rattle.std.specs.Fn.{Mut, Called, CalledAt}
+use Rattle.std.specs.Array.{IsFromFnResult, IsFromFnResultFrom}
 use Rattle.opset.specs.declared.OpSet.{OpSet}
 use Rattle.opset.specs.Sets.{has, Empty}
-use Rattle.ranks.specs.Numbers.{number_at}
-use Rattle.models.specs.Rows.{Row, Rows}
 
--- the row has exactly the ranks below n whose operations are P
-pub record Filled (P : ℕ → Type 0) (list : List ℕ) (n : ℕ) (row : OpSet) : Type 0 where
-  pub each : (i : ℕ) → i < 64 → Decides (has row i) ((i < n) × P (number_at list i))
+-- each rank below n is in the set, or is not, as P has it; and no other is
+pub record Filled (P : ℕ → Bool → Type 0) (n : ℕ) (row : OpSet) : Type 0 where
+  pub below : (i : ℕ) → i < n → P i (has row i)
+  pub above : (i : ℕ) → n ≤ i → has row i ≡ false
 
-module _ (P : ℕ → Type 0) (list : List ℕ) where
-  pub filled_none : (row : OpSet) → Empty row → Filled P list 0 row
-  filled_none row e = record { each = λ i l. (λ b. absurd (both_ways (has row i) (e i) b), λ h. absurd (omega (arith, h.0))) }
+-- a chain over a range: the numbers that pass a test are put into a set
+module _ {F G : Type 0} (g : Mut F (Bor ℕ × Unit {0}) Bool) (h : Mut G (OpSet × (ℕ × Unit {0})) OpSet) (P : ℕ → Bool → Type 0) (f : F) (e : G)
+    (asks : (x : ℕ) (b : Bool) (q : F) → CalledAt g f x b q → P x b × (q ≡ f))
+    (puts : (row : OpSet) (x : ℕ) (next : OpSet) (q : G) → Called h e (row, (x, tt)) next q → ((k : ℕ) → has next k ≡ (has row k || (eqb k x && ltb x 64))) × (q ≡ e)) where
+  filled_more : (n : ℕ) (row next : OpSet) (answer : Bool) → Filled P n row → P n answer → ((k : ℕ) → has next k ≡ (has row k || (eqb k n && answer))) → Filled P (n + 1) next
+  filled_more n row next answer r p e = grind (arith, common_steps)
 
-  filled_with : (n : ℕ) (row next : OpSet) → n < 64 → Filled P list n row → P (number_at list n) → ((k : ℕ) → has next k ≡ (has row k || (eqb k n && ltb n 64))) → Filled P list (n + 1) next
-  filled_with n row next l f p e =
-      record {
-        each = λ i il. (
-          λ b. ⊎_elim
-              (λ h. let w = (f.each i il).0 h in (omega (arith, w.0), w.1))
-              (λ h. let s = eqb-true i n (and_parts (eqb i n) (ltb n 64) h).0 in (omega arith, subst (λ k. P (number_at list k)) (sym s) p))
-              (or_cases (has row i) (eqb i n && ltb n 64) (sym (e i) ∙ b)),
-          λ h. e i ∙ ⊎_elim
-              (λ s. or_right (has row i) (eqb i n && ltb n 64) (and_from (eqb i n) (ltb n 64) (eq-eqb i n s) (lt-ltb n 64 l)))
-              (λ ne. or_left (has row i) (eqb i n && ltb n 64) ((f.each i il).1 (omega (arith, h.0), h.1)))
-              (cases_eq i n),
-        );
-      }
+  skipped : (xs : List ℕ) (s u : Range ℕ) (p q : F) (row : OpSet) → p ≡ f → Yields nat_range_steps s xs u → FoldsTo (λ a x b. CalledAt g a x false b) p xs q → Filled P s.start row → (q ≡ f) × (u.end ≡ s.end) × Filled P u.start row
+  skipped [] s u p q row same y c r = (sym c ∙ same, ap (λ x. x.end) (sym y), subst (λ x. Filled P x.start row) y r)
+  skipped (x ∷ xs) s u p q row same y c r =
+      let call = asks x false c.0 (subst (λ a. CalledAt g a x false c.0) same c.1) in
+      let next : Filled P (s.start + 1) row = grind (arith, common_steps) in
+      let rest = skipped xs y.0 u c.0 q row call.1 y.2 c.2 (subst (λ n. Filled P n row) (sym y.1.1.2) next) in
+      (rest.0, rest.1 ∙ y.1.0, rest.2)
 
-  filled_skip : (n : ℕ) (row : OpSet) → Filled P list n row → (P (number_at list n) → ⊥) → Filled P list (n + 1) row
-  filled_skip n row f no' =
-      record {
-        each = λ i il. (
-          λ b. let w = (f.each i il).0 b in (omega (arith, w.0), w.1),
-          λ h. ⊎_elim
-              (λ s. absurd (no' (subst (λ k. P (number_at list k)) s h.1)))
-              (λ ne. (f.each i il).1 (omega (arith, h.0), h.1))
-              (cases_eq i n),
-        );
-      }
+  filled : (ys : List ℕ) (s : Filter (Range ℕ) F) (p q : G) (row last : OpSet) → filter_callee s ≡ f → p ≡ e → (filter_source s).end ≡ 64 → Drains (filter_steps nat_range_steps g) s ys → FoldsTo (FoldTurn h) (p, row) ys (q, last) → Filled P (filter_source s).start row → (n : ℕ) × (64 ≤ n) × Filled P n last
+  filled [] s p q row last same is to d c r =
+      let k = d.1.2 in
+      let go = skipped k.0 (filter_source s) k.2.0 (filter_callee s) k.1 row same (subst (λ t. Yields nat_range_steps (filter_source t) k.0 k.2.0) (sym d.1.1) k.2.1) (subst (λ t. FoldsTo (λ a x b. CalledAt g a x false b) (filter_callee t) k.0 k.1) (sym d.1.1) k.3) r in
+      (k.2.0.start, omega (arith, k.2.2.1.0, go.1, to), subst (Filled P k.2.0.start) (ap (λ x. x.1) c) go.2)
+  filled (x ∷ ys) s p q row last same is to d c r =
+      let k = d.1.1.1 in
+      let go = skipped k.0 (filter_source s) k.2.0 (filter_callee s) k.1 row same k.2.1 k.3 r in
+      let here : Filled P x row = subst (λ n. Filled P n row) (sym k.2.2.1.1) go.2 in
+      let passed = asks x true (filter_callee d.1.1.0) (subst (λ a. CalledAt g a x true (filter_callee d.1.1.0)) go.0 k.4) in
+      let call = puts row x c.0.1 c.0.0 (subst (λ a. Called h a (row, (x, tt)) c.0.1 c.0.0) is c.1) in
+      let low : ltb x 64 ≡ true = lt-ltb x 64 (omega (arith, k.2.2.1.0, k.2.2.1.1, go.1, to)) in
+      let next = filled_more x row c.0.1 (ltb x 64) here (subst (P x) (sym low) passed.0) call.0 in
+      let start : x + 1 ≡ (filter_source d.1.1.0).start = omega (arith, k.2.2.1.1, k.2.2.1.2) in
+      filled ys d.1.1.0 c.0.0 q c.0.1 last passed.1 call.1 (k.2.2.0 ∙ go.1 ∙ to) (d.0, (d.1.0, d.1.1.2, d.1.2)) c.2 (subst (λ n. Filled P n c.0.1) start next)
 
-  -- one turn: the answer at rank n, and what becomes of the row
-  pub filled_step : (n : ℕ) (row next : OpSet) (answer : Bool) (number : ℕ) → n < 64 → Filled P list n row → number ≡ number_at list n → Decides answer (P number) → (answer ≡ true → (more : OpSet) → next ≡ more → ((k : ℕ) → has more k ≡ (has row k || (eqb k n && ltb n 64))) → Filled P list (n + 1) next) × (answer ≡ false → next ≡ row → Filled P list (n + 1) next)
-  filled_step n row next answer number l f at d = (
-    λ a more is e. subst (Filled P list (n + 1)) (sym is) (filled_with n row more l f (subst P at (d.0 a)) e),
-    λ a is. subst (Filled P list (n + 1)) (sym is) (filled_skip n row f (λ p. both_ways answer a (d.1 (subst P (sym at) p)))),
-  )
+  -- so each rank of the set that the fold makes is in it, or is not, as P has it
+  pub filled_all : (s : Filter (Range ℕ) F) (row last : OpSet) → filter_source s ≡ record { start = 0; end = 64 } → filter_callee s ≡ f → Empty row → FoldsItems (filter_steps nat_range_steps g) h s e row last → (i : ℕ) → i < 64 → P i (has last i)
+  filled_all s row last is same none ran i l =
+      let none : Filled P 0 row = record { below = λ i l. absurd (omega arith); above = λ i l. none i } in
+      let end = filled ran.0 s e ran.1 row last same refl (ap (λ x. x.end) is) ran.2 ran.3 (subst (λ n. Filled P n row) (sym (ap (λ x. x.start) is)) none) in
+      end.2.below i (omega (arith, end.1))
 
-  pub filled_all : (n : ℕ) (row : OpSet) → 64 ≤ n → Filled P list n row → Row P list row
-  filled_all n row l f i il = (λ b. ((f.each i il).0 b).1, λ p. (f.each i il).1 (omega arith, p))
+-- what P says of each call of a closure that stays as it is, it says of each element of the array that `from_fn` makes by it
+module _ {F B : Type 0} (g : Mut F (ℕ × Unit {0}) B) (P : ℕ → B → Type 0) (f : F) (call : (i : ℕ) (y : B) (q : F) → Called g f (i, tt) y q → P i y × (q ≡ f)) (ys : List B) where
+  made_from : (n i j : ℕ) (p : F) (d : B) → p ≡ f → IsFromFnResultFrom g p ys i n → i ≤ j → j < i + n → P j (get_or ys j d)
+  made_from zero i j p d same r l m = absurd (omega arith)
+  made_from (suc n) i j p d same r l m =
+      let here = call i r.1 r.0 (subst (λ x. Called g x (i, tt) r.1 r.0) same r.3) in
+      ⊎_elim
+      (λ s. subst (λ k. P k (get_or ys k d)) (sym s) (subst (P i) (sym (r.2.1 d)) here.0))
+      (λ ne. made_from n (i + 1) j r.0 d here.1 r.4 (omega arith) (omega arith))
+      (cases_eq j i)
 
--- a table that is filled row after row
-pub record FilledRows (R : ℕ → ℕ → Type 0) (list : List ℕ) (n : ℕ) (rows : List OpSet) : Type 0 where
-  pub long : length rows ≡ 64
-  pub each : (j : ℕ) → j < n → Row (λ i. R i (number_at list j)) list (get_or rows j (record { 0 = 0 }))
-
-module _ (R : ℕ → ℕ → Type 0) (list : List ℕ) where
-  pub rows_none : (rows : List OpSet) → length rows ≡ 64 → FilledRows R list 0 rows
-  rows_none rows l = record { long = l; each = λ j h. absurd (omega arith) }
-
-  pub rows_more : (n : ℕ) (rows : List OpSet) (row : OpSet) → n < 64 → FilledRows R list n rows → Row (λ i. R i (number_at list n)) list row → FilledRows R list (n + 1) (set rows n row)
-  rows_more n rows row l f r =
-      record {
-        long = length-set rows n row ∙ f.long;
-        each = λ j h.
-            ⊎_elim
-            (λ s. subst (λ k. Row (λ i. R i (number_at list k)) list (get_or (set rows n row) k (record { 0 = 0 }))) (sym s) (subst (Row (λ i. R i (number_at list n)) list) (sym (get_or-set_same rows n row (record { 0 = 0 }) (omega (arith, f.long)))) r))
-            (λ ne. subst (Row (λ i. R i (number_at list j)) list) (sym (get_or-set_other rows n j row (record { 0 = 0 }) ne)) (f.each j (omega arith)))
-            (cases_eq j n);
-      }
-
-  pub rows_all : (n : ℕ) (rows : List OpSet) → 64 ≤ n → FilledRows R list n rows → Rows R list rows
-  rows_all n rows l f j h = f.each j (omega arith)
+  pub made_each : (n j : ℕ) (d : B) → IsFromFnResult g f ys n → j < n → P j (get_or ys j d)
+  made_each n j d r l = made_from n 0 j f d refl r.each (omega arith) (omega arith)

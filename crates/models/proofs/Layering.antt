@@ -1,6 +1,7 @@
 -- The closed table is the write-into order, rank by rank.
-use Rattle.std.proofs.Common.{◌≡◌, ℕ, ◌<◌, ◌≤◌, List, sym, refl, subst, inl, inr, ⊎_elim, arith}
+use Rattle.std.proofs.Common.{◌≡◌, ℕ, ◌<◌, ◌≤◌, Bool, false, List, Option, Some, None, MatchOption, Decides, sym, refl, subst, inl, inr, ⊎_elim, arith}
 use Rattle.std.proofs.lemmas.Bool.{both_ways}
+use Rattle.std.proofs.lemmas.Bool.Decides.{Decides-at}
 use Rattle.opset.specs.declared.OpSet.{OpSet}
 use Rattle.opset.specs.Sets.{has, Empty}
 use Rattle.trace.specs.Traces.{Trace, operation_count, There}
@@ -10,10 +11,10 @@ use Rattle.models.specs.Chains.{Chain, one, more}
 use Rattle.models.specs.Rows.{Row, Rows, Added, Edge, Closed}
 use Rattle.models.specs.Layers.{Names, Step, write_into, step_there}
 
-module _ (m : Meaning) (laws : Laws m) (t : Trace) (few : operation_count t ≤ 64) (facts : Numbers t) where
+module _ (m : Meaning) (laws : Laws m) (t : Trace) (facts : Numbers t) where
   -- the rank of an operation that is there
   ranked : (k : ℕ) → There t k → (r : ℕ) × (r < 64) × (number_at (numbers t) r ≡ k)
-  ranked k e = let r = facts.every k e in (r.0, omega (arith, r.1.within, facts.count), r.1.at)
+  ranked k e = let r = facts.every k e in (r.0, omega (arith, r.1.within, facts.count, facts.few), r.1.at)
 
   module _ (rows added : List OpSet) (base : Rows (m.before t) (numbers t) rows) (a : Added (Names t) (numbers t) rows added) where
     step_of : (i j : ℕ) → Edge added i j → Step m t (number_at (numbers t) i) (number_at (numbers t) j)
@@ -43,3 +44,10 @@ absent t facts list same number u e = let r = facts.every number e in u r.0 (sub
 
 pub row_none : (P : ℕ → Type 0) (list : List ℕ) (row : OpSet) → Empty row → ((i : ℕ) → P i → ⊥) → Row P list row
 row_none P list row e never i l = (λ b. absurd (both_ways (has row i) (e i) b), λ p. absurd (never (number_at list i) p))
+
+-- whether P holds of an operation is told by a row at its rank; it does not hold of what has none
+pub by_rank : (t : Trace) → (facts : Numbers t) (list : List ℕ) → list ≡ numbers t → (number : ℕ) (P : ℕ → Type 0) → (P number → There t number) → (rank : Option ℕ) (answer : Bool) → MatchOption rank (Unlisted list number) (RankOf list number) → MatchOption rank (answer ≡ false) (λ r. (row : OpSet) × Row P (numbers t) row × (answer ≡ has row r)) → Decides answer (P number)
+by_rank t facts list same number P there None answer unlisted no' = (λ b. absurd (both_ways answer no' b), λ p. absurd (absent t facts list same number unlisted (there p)))
+by_rank t facts list same number P there (Some r) answer at found =
+    let here = subst (λ xs. RankOf xs number r) same at in
+    Decides-at answer (has found.0 r) found.2 (subst (λ i. Decides (has found.0 r) (P i)) here.at (found.1 r (omega (arith, here.within, facts.count, facts.few))))

@@ -1,17 +1,16 @@
 -- The loops that change a table row after row.
-use Rattle.std.proofs.Common.{◌≡◌, ℕ, ◌+◌, ◌<◌, ◌≤◌, true, ◌&&◌, ◌||◌, ◌⊎◌, List, length, set, Decides, sym, refl, ap, ◌∙◌, subst, ⊎_elim, arith}
-use Rattle.std.proofs.lemmas.List.{length-set, get_or-set_same, get_or-set_other}
-use Rattle.std.proofs.lemmas.Bool.{cases_eq}
+use Rattle.std.proofs.Common.{◌≡◌, ℕ, ◌+◌, ◌<◌, ◌≤◌, true, ◌&&◌, ◌||◌, ◌⊎◌, eqb, ltb, List, length, set, is_some, Some, None, Decides, Option, MatchOption, sym, ap, ◌∙◌, subst, arith}
+use Rattle.std.proofs.lemmas.List.{get_or_past}
+use Rattle.std.proofs.lemmas.Bool.{both_ways}
+use Rattle.std.proofs.lemmas.Grind.{common_steps}
 use Rattle.std.proofs.lemmas.Bool.Decides.{Decides-at, Decides-or}
 use Rattle.opset.specs.declared.OpSet.{OpSet}
 use Rattle.opset.specs.Sets.{has}
-use Rattle.models.specs.Rows.{Row, row_at, Added}
-use Rattle.ranks.specs.Numbers.{number_at}
-use Rattle.trace.specs.declared.operation.Operation.{Operation}
-use Rattle.trace.specs.Operations.{is_read, is_write}
-use Rattle.trace.specs.Traces.{Trace}
-use Rattle.models.specs.Meaning.{Is, Write}
-use Rattle.models.specs.Growth.{same_operation}
+use Rattle.trace.specs.Traces.{Trace, There}
+use Rattle.trace.proofs.Lanes.{nowhere_below}
+use Rattle.ranks.specs.Numbers.{numbers, number_at, Numbers, RankOf, Unlisted}
+use Rattle.models.specs.Growth.{is_there, same_operation}
+use Rattle.models.specs.Rows.{row_at}
 use Rattle.models.specs.Layers.{Names}
 
 -- rows below n are as F makes them of the old ones, and the others are the old ones
@@ -20,21 +19,8 @@ pub record Changing (F : ℕ → OpSet → Type 0) (rows : List OpSet) (n : ℕ)
   pub done : (j : ℕ) → j < n → F j (row_at now j)
   pub left : (j : ℕ) → n ≤ j → row_at now j ≡ row_at rows j
 
-module _ (F : ℕ → OpSet → Type 0) (rows : List OpSet) where
-  pub changing_starts : Changing F rows 0 rows
-  changing_starts = record { long = refl; done = λ j h. absurd (omega arith); left = λ j h. refl }
-
-  pub changing_set : (n : ℕ) (now : List OpSet) (row : OpSet) → n < length rows → Changing F rows n now → F n row → Changing F rows (n + 1) (set now n row)
-  changing_set n now row h c f =
-      record {
-        long = length-set now n row ∙ c.long;
-        done = λ j l.
-            ⊎_elim
-            (λ s. subst (λ k. F k (row_at (set now n row) k)) (sym s) (subst (F n) (sym (get_or-set_same now n row (record { 0 = 0 }) (omega (arith, c.long)))) f))
-            (λ ne. subst (F j) (sym (get_or-set_other now n j row (record { 0 = 0 }) ne)) (c.done j (omega arith)))
-            (cases_eq j n);
-        left = λ j l. get_or-set_other now n j row (record { 0 = 0 }) (λ s. omega arith) ∙ c.left j (omega arith);
-      }
+changing_set : (F : ℕ → OpSet → Type 0) (rows : List OpSet) (n : ℕ) (now : List OpSet) (row : OpSet) → n < length rows → Changing F rows n now → F n row → Changing F rows (n + 1) (set now n row)
+changing_set F rows n now row h c f = grind (arith, common_steps)
 
 -- a row that has `via` gains the row of `via`
 pub record Gains (rows : List OpSet) (via : ℕ) (j : ℕ) (row : OpSet) : Type 0 where
@@ -47,18 +33,43 @@ Passing rows via n now = Changing (Gains rows via) rows n now
 pub record Gained (R : ℕ → ℕ → Type 0) (list : List ℕ) (rows : List OpSet) (j : ℕ) (row : OpSet) : Type 0 where
   pub is : (i : ℕ) → i < 64 → Decides (has row i) ((has (row_at rows j) i ≡ true) ⊎ R (number_at list i) (number_at list j))
 
-pub gained : (R : ℕ → ℕ → Type 0) (list : List ℕ) (rows : List OpSet) (j : ℕ) (more row : OpSet) → Row (λ i. R i (number_at list j)) list more → ((i : ℕ) → has row i ≡ (has (row_at rows j) i || has more i)) → Gained R list rows j row
-gained R list rows j more row m e =
-    record {
-      is = λ i l. Decides-at (has row i) (has (row_at rows j) i || has more i) (e i) (Decides-or (has (row_at rows j) i) (has more i) (λ b. b, λ b. b) (m i l));
-    }
+-- the rank of the write that an operation names, where it names one
+abbrev pub NamedRank : Trace → ℕ → Option ℕ → Type 0
+NamedRank t j rank = MatchOption rank ((w : ℕ) → Names t w j → ⊥) (λ r. (w : ℕ) × Names t w j × RankOf (numbers t) w r)
 
-pub gained_all : (R : ℕ → ℕ → Type 0) (list : List ℕ) (rows : List OpSet) (n : ℕ) (now : List OpSet) → 64 ≤ n → Changing (Gained R list rows) rows n now → Added R list rows now
-gained_all R list rows n now h c = record { long = c.long; each = λ i j li lj. (c.done j (omega arith)).is i li }
+pub named_rank : (t : Trace) → Numbers t → (j : ℕ) (write rank : Option ℕ) → MatchOption write ((w : ℕ) → Names t w j → ⊥) (λ w. Names t w j) → MatchOption write (rank ≡ None) (λ w. MatchOption rank (Unlisted (numbers t) w) (RankOf (numbers t) w)) → NamedRank t j rank
+named_rank t facts j None rank never none = subst (NamedRank t j) (sym none) never
+named_rank t facts j (Some w) None n unlisted = let at = facts.every w (is_there t w n.write.0 n.write.1) in absurd (unlisted at.0 at.1)
+named_rank t facts j (Some w) (Some r) n at = (w, n, at)
 
--- the write that a read names, at the ranks of its number
-pub names_row : (t : Trace) (list : List ℕ) (number : ℕ) (read write : Operation) (row : OpSet) → Is t number read → Is t read.source write → is_read read ≡ true → is_write write ≡ true → Row (λ i. i ≡ read.source) list row → Row (λ i. Names t i number) list row
-names_row t list number read write row is there r w d i l = (
-  λ b. let e = (d i l).0 b in record { read = read; is = is; reads = r; source = sym e; write = subst (Write t) (sym e) (write, there, w) },
-  λ n. (d i l).1 (sym n.source ∙ ap (λ o. o.source) (same_operation t number n.read read n.is is)),
-)
+module _ (t : Trace) (facts : Numbers t) (w r : ℕ) (at : RankOf (numbers t) w r) where
+  -- an operation stands at no rank but its own
+  one_rank : There t w → (i : ℕ) → number_at (numbers t) i ≡ w → i ≡ r
+  one_rank there i e =
+      let low : w < 101 → ⊥ = λ l. both_ways _ (ap is_some (nowhere_below t w l)) there in
+      grind (arith, common_steps, facts.rising i r, facts.rising r i, get_or_past (numbers t) i 0)
+
+  -- so the write that a read names is named at that rank alone
+  named_once : (j : ℕ) → Names t w j → (i : ℕ) → i < 64 → Decides (eqb i r && ltb r 64) (Names t (number_at (numbers t) i) j)
+  named_once j n i l =
+      let same : Names t (number_at (numbers t) i) j → number_at (numbers t) i ≡ w = λ m. sym m.source ∙ ap (λ o. o.source) (same_operation t j m.read n.read m.is n.is) ∙ n.source in
+      let s = one_rank (is_there t w n.write.0 n.write.1) i in
+      let here : i ≡ r → Names t (number_at (numbers t) i) j = λ e. subst (λ k. Names t k j) (sym (ap (number_at (numbers t)) e ∙ at.at)) n in
+      grind (arith, common_steps)
+
+-- one turn: the row of rank n, with the write that its operation names put in where there is one
+module _ (t : Trace) (facts : Numbers t) (rows now : List OpSet) (n : ℕ) (next : OpSet) where
+  abbrev pub Puts : Option ℕ → Type 0
+  Puts rank = MatchOption rank (next ≡ row_at now n) (λ r. (k : ℕ) → has next k ≡ (has (row_at now n) k || (eqb k r && ltb r 64)))
+
+  gained : row_at now n ≡ row_at rows n → (rank : Option ℕ) → NamedRank t (number_at (numbers t) n) rank → Puts rank → Gained (Names t) (numbers t) rows n next
+  gained same None never e = record { is = λ i l. grind (arith, common_steps, never (number_at (numbers t) i)) }
+  gained same (Some r) named e =
+      record {
+        is = λ i l.
+            Decides-at (has next i) (has (row_at rows n) i || (eqb i r && ltb r 64)) (e i ∙ ap (λ s. has s i || (eqb i r && ltb r 64)) same)
+            (Decides-or (has (row_at rows n) i) (eqb i r && ltb r 64) (λ b. b, λ b. b) (named_once t facts named.0 r named.2 (number_at (numbers t) n) named.1 i l));
+      }
+
+  pub named_turn : n < length rows → Changing (Gained (Names t) (numbers t) rows) rows n now → (rank : Option ℕ) → NamedRank t (number_at (numbers t) n) rank → Puts rank → Changing (Gained (Names t) (numbers t) rows) rows (n + 1) (set now n next)
+  named_turn l c rank named e = changing_set _ rows n now next l c (gained (c.left n (omega arith)) rank named e)

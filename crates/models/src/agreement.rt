@@ -1,6 +1,5 @@
 //! Agreement on writes: a layer that has all views put the writes of a variable in one order.
 ghost use Rattle.std.specs.Prelude.{Decides};
-ghost use Rattle.trace.specs.Tables.{trace_of};
 ghost use Rattle.models.specs.Layers.{SameVariable, agreement, HoldsWrites, agreement_laws};
 ghost use Rattle.models.specs.Writes.{sequential_every, pram_every, write_into_every, agreement_every};
 
@@ -20,7 +19,7 @@ pub struct Agreement<M> {
 
 // Whether both are writes, different ones, of one variable.
 fn same_variable(table: &Table, one: u16, other: u16) -> bool
-    ensures { Decides result (SameVariable (trace_of table.now) one other) }
+    ensures { Decides result (SameVariable table.now one other) }
 {
     if one == other {
         return false;

@@ -10,10 +10,9 @@ fn pass_through(rows: &mut [OpSet; 64], via: u8)
     ensures { Passed rows.old via rows.new }
 {
     let more = rows[via as usize];
-    for rank in 0..64 {
-        let row = rows[rank];
+    for row in rows.iter_mut() {
         if row.contains(via) {
-            rows[rank] = row.union(more);
+            *row = row.union(more);
         }
     }
 }

@@ -20,13 +20,10 @@ impl MemoryModel for Coherent {
     }
 
     fn holds(&self, table: &Table, view: u8, number: u16) -> bool {
-        if view < 1 || view > table.variables() {
-            return false;
-        }
-        match table.operation(number) {
-            Some(operation) => operation.variable == view,
-            None => false,
-        }
+        (1..=table.variables()).contains(&view)
+            && table
+                .operation(number)
+                .is_some_and(|operation| operation.variable == view)
     }
 
     fn before(&self, table: &Table, first: u16, second: u16) -> bool {

@@ -7,5 +7,6 @@ pub mod coherent;
 pub mod model;
 pub mod pram;
 mod program_order;
+mod ranked;
 pub mod sequential;
 pub mod write_into;

@@ -21,13 +21,10 @@ impl MemoryModel for Pram {
     }
 
     fn holds(&self, table: &Table, view: u8, number: u16) -> bool {
-        if view < 1 || view > table.processors() {
-            return false;
-        }
-        match table.operation(number) {
-            Some(operation) => number / 100 == u16::from(view) || operation.kind == Kind::Write,
-            None => false,
-        }
+        (1..=table.processors()).contains(&view)
+            && table.operation(number).is_some_and(|operation| {
+                number / 100 == u16::from(view) || operation.kind == Kind::Write
+            })
     }
 
     fn before(&self, table: &Table, first: u16, second: u16) -> bool {

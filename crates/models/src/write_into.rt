@@ -1,9 +1,7 @@
 //! Write-into order: a layer that puts each write before the reads that name it, and closes the order.
-ghost use Rattle.std.specs.Prelude.{◌≡◌};
-ghost use Rattle.trace.specs.Tables.{trace_of};
-ghost use Rattle.ranks.specs.Listings.{listed};
-ghost use Rattle.ranks.specs.Numbers.{numbers};
-ghost use Rattle.models.specs.Rows.{Row, Added};
+ghost use Rattle.std.specs.Prelude.{ℕ, MatchOption};
+ghost use Rattle.ranks.specs.Numbers.{numbers, Numbers};
+ghost use Rattle.models.specs.Rows.{Added};
 ghost use Rattle.models.specs.Layers.{Names, write_into, write_into_laws};
 
 use crate::closure::close;
@@ -19,42 +17,26 @@ pub struct WriteInto<M> {
     pub below: M,
 }
 
-// The ranks at which a number stands.
-fn ranks_of(ranks: &Ranks, number: u16) -> OpSet
-    ensures { Row (λ i. i ≡ number) (listed ranks.now) result }
+// The write that a read names; nothing where the operation is no read, or its source no write.
+fn named(table: &Table, number: u16) -> Option<u16>
+    ensures { MatchOption result ((w : ℕ) → Names table.now w number → ⊥) (λ w. Names table.now w number) }
 {
-    let mut row = OpSet::empty();
-    for rank in 0..64u8 {
-        if ranks.number(rank as usize) == number {
-            row = row.with(rank);
-        }
-    }
-    row
-}
-
-// The write that a read names, as a set of ranks; nothing where the operation is no read, or its source no write.
-fn named(table: &Table, ranks: &Ranks, number: u16) -> OpSet
-    ensures { Row (λ i. Names (trace_of table.now) i number) (listed ranks.now) result }
-{
-    let Some(read) = table.operation(number) else {
-        return OpSet::empty();
-    };
-    let Some(write) = table.operation(read.source) else {
-        return OpSet::empty();
-    };
-    match (read.kind, write.kind) {
-        (Kind::Read, Kind::Write) => ranks_of(ranks, read.source),
-        _ => OpSet::empty(),
-    }
+    let read = table.operation(number)?;
+    let write = table.operation(read.source)?;
+    (read.kind == Kind::Read && write.kind == Kind::Write).then_some(read.source)
 }
 
 // Adds to each row the write that its operation names, where it is a read.
 fn add_named(table: &Table, rows: &mut [OpSet; 64])
-    ensures { Added (λ i j. Names (trace_of table.now) i j) (numbers (trace_of table.now)) rows.old rows.new }
+    ensures added { Added (λ i j. Names table.now i j) (numbers table.now) rows.old rows.new }
+    ensures facts { Numbers table.now }
 {
     let ranks = Ranks::of(table);
-    for rank in 0..64 {
-        rows[rank] = rows[rank].union(named(table, &ranks, ranks.number(rank)));
+    for (rank, row) in rows.iter_mut().enumerate() {
+        let write = named(table, ranks.number(rank)).and_then(|write| ranks.rank(write));
+        if let Some(write) = write {
+            *row = row.with(write);
+        }
     }
 }
 
@@ -72,10 +54,9 @@ impl<M: MemoryModel> MemoryModel for WriteInto<M> {
     }
 
     fn before(&self, table: &Table, first: u16, second: u16) -> bool {
-        match Ranks::of(table).rank(first) {
-            Some(rank) => self.before_row(table, second).contains(rank),
-            None => false,
-        }
+        Ranks::of(table)
+            .rank(first)
+            .is_some_and(|rank| self.before_row(table, second).contains(rank))
     }
 
     fn alike(&self, table: &Table, one: u16, other: u16) -> bool {

@@ -7,14 +7,9 @@ use Rattle.std.proofs.lemmas.Bool.{eq-eqb, ne_eqb, eqb-true, lt-ltb, cases_lt, c
 use Rattle.opset.specs.Digits.{bit}
 use Rattle.opset.specs.Sets.{has, members, size, Empty, Listed}
 use Rattle.opset.specs.declared.OpSet.{OpSet}
-use Rattle.opset.proofs.Digits.{bit_none, bit_past, bit_of_xor, bit_power, no_bits, same_bits, ones_of_zero, ones_none, ones_listed, ones_less}
+use Rattle.opset.proofs.Digits.{bit_none, bit_past, bit_of_xor, bit_power, no_bits, ones_of_zero, ones_none, ones_listed, ones_less}
 
 -- ---- members
-
--- sets with the same members are the same
-pub same_members : (s t : OpSet) → ((k : ℕ) → has s k ≡ has t k) → s ≡ t
-unfolding has
-same_members s t h i = record { 0 = same_bits s.0 t.0 h i }
 
 -- the word 0 is the empty set
 pub has_none : Empty (record { 0 = 0 })

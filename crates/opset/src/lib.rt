@@ -4,9 +4,19 @@
 ghost use Rattle.std.specs.Prelude.{◌≡◌, ℕ, ◌≤◌, min, false, not, ◌&&◌, ◌||◌, List, length, Decides, MatchOption, ◌==◌, nat_lt};
 ghost use Rattle.opset.specs.Sets.{has, members, size, Empty, Subset, Least, Listed};
 
+use fixed_list::Blank;
+
 /// A set of operations, each named by its index, from 0 to 63.
 #[derive(Clone, Copy, PartialEq, Eq, Debug)]
 pub struct OpSet(u64);
+
+impl Blank for OpSet {
+    ghost blank = { record { 0 = 0 } };
+
+    fn blank() -> OpSet {
+        Self(0)
+    }
+}
 
 impl OpSet {
     /// Returns the set with no members.

@@ -6,7 +6,6 @@ use Rattle.opset.specs.declared.OpSet.{OpSet}
 use Rattle.opset.specs.Sets.{has, Empty}
 use Rattle.trace.specs.Traces.{Trace}
 use Rattle.ranks.specs.Numbers.{numbers, number_at, RankOf, Unlisted, Numbers}
-use Rattle.ranks.specs.Listings.{listed}
 use Rattle.ranks.specs.declared.listing.Ranks.{Ranks}
 use Rattle.models.specs.Meaning.{Meaning, Laws}
 use Rattle.models.specs.Rows.{Row, Rows, row_at}
@@ -70,30 +69,30 @@ module _ (t : Trace) (facts : Numbers t) where
     λ h. ⊎_elim (each i j li lj).1 (λ new. absurd (none j (record { within = lj; at = new.1 }))) (earlier_snoc xs number (number_at (numbers t) i) (number_at (numbers t) j) h),
   )
 
-  module _ (ranks : Ranks) (value : listed ranks ≡ numbers t) (list : List ℕ) where
+  module _ (ranks : Ranks) (value : ranks ≡ numbers t) (list : List ℕ) where
     pub tabled_none : (none seen : OpSet) → Empty none → Empty seen → Tabled t list 0 (replicate 64 none) seen
     tabled_none none seen empty start =
         record {
           long = length-replicate 64 none;
           each = λ i j li lj. (
-            λ b. absurd (both_ways (has (row_at (replicate 64 none) j) i) (ap (λ z. has z i) (get_or-replicate 64 j none (record { 0 = 0 }) (omega (arith, few_numbers ranks t value, lj))) ∙ empty i) b),
+            λ b. absurd (both_ways (has (row_at (replicate 64 none) j) i) (ap (λ z. has z i) (get_or-replicate 64 j none (record { 0 = 0 }) (omega (arith, few_numbers t facts, lj))) ∙ empty i) b),
             λ h. let s = later_stands [] (number_at (numbers t) i) (number_at (numbers t) j) h in absurd (not_parted s.before s.after (number_at (numbers t) j) s.is),
           );
           marked = seen_none t facts seen start;
         }
 
     module _ (i : ℕ) (rows : List OpSet) (seen : OpSet) (l : i < length list) (sofar : Tabled t list i rows seen) where
-      pub tabled_more : (gained next : OpSet) (rank : ℕ) (after : List OpSet) → RankOf (listed ranks) (get_or list i 0) rank → ((k : ℕ) → has gained k ≡ (has (row_at rows rank) k || has seen k)) → ((k : ℕ) → has next k ≡ (has seen k || (eqb k rank && ltb rank 64))) → after ≡ set rows rank gained → Tabled t list (i + 1) after next
+      pub tabled_more : (gained next : OpSet) (rank : ℕ) (after : List OpSet) → RankOf ranks (get_or list i 0) rank → ((k : ℕ) → has gained k ≡ (has (row_at rows rank) k || has seen k)) → ((k : ℕ) → has next k ≡ (has seen k || (eqb k rank && ltb rank 64))) → after ≡ set rows rank gained → Tabled t list (i + 1) after next
       tabled_more gained next rank after there e f is =
           let at = subst (λ z. RankOf z (get_or list i 0) rank) value there in
-          let low : rank < 64 = omega (arith, few_numbers ranks t value, at.within) in
+          let low : rank < 64 = omega (arith, few_numbers t facts, at.within) in
           record {
             long = ap length is ∙ length-set rows rank gained ∙ sofar.long;
             each = subst (λ z. EarlierRows t z after) (sym (take_more list i 0 l)) (subst (EarlierRows t (take i list ++ get_or list i 0 ∷ [])) (sym is) (gained_row (take i list) rows seen gained (get_or list i 0) rank (omega (arith, low, sofar.long)) sofar.each sofar.marked at e));
             marked = subst (λ z. Seen t z next) (sym (take_more list i 0 l)) (seen_more t facts (take i list) seen next (get_or list i 0) rank low sofar.marked at f);
           }
 
-      pub tabled_skips : (after : List OpSet) (next : OpSet) → Unlisted (listed ranks) (get_or list i 0) → after ≡ rows → next ≡ seen → Tabled t list (i + 1) after next
+      pub tabled_skips : (after : List OpSet) (next : OpSet) → Unlisted ranks (get_or list i 0) → after ≡ rows → next ≡ seen → Tabled t list (i + 1) after next
       tabled_skips after next unlisted is same =
           let none = subst (λ z. Unlisted z (get_or list i 0)) value unlisted in
           record {
@@ -113,7 +112,7 @@ AgreesAt m t b other list j = (i : ℕ) → m.alike t i j → m.holds t b i → 
 abbrev pub AgreesTo : Meaning → Trace → ℕ → List ℕ → List ℕ → ℕ → Type 0
 AgreesTo m t b other list n = (r : ℕ) → r < n → AgreesAt m t b other list (number_at (numbers t) r)
 
-module _ (m : Meaning) (laws : Laws m) (t : Trace) (facts : Numbers t) (ranks : Ranks) (value : listed ranks ≡ numbers t) (count : ℕ) (counted : count ≡ length (listed ranks)) (b : ℕ) (other list : List ℕ) where
+module _ (m : Meaning) (laws : Laws m) (t : Trace) (facts : Numbers t) (ranks : Ranks) (value : ranks ≡ numbers t) (count : ℕ) (counted : count ≡ length ranks) (b : ℕ) (other list : List ℕ) where
   pub agrees_all : (n : ℕ) → count ≤ n → AgreesTo m t b other list n → Agrees m t b other list
   agrees_all n l all i j alike hi hj e =
       let r = facts.every j (laws.held t b j hj).1 in
@@ -124,7 +123,7 @@ module _ (m : Meaning) (laws : Laws m) (t : Trace) (facts : Numbers t) (ranks : 
     within = omega (arith, low, counted, ap length value)
 
     past : rank < 64
-    past = omega (arith, within, few_numbers ranks t value)
+    past = omega (arith, within, few_numbers t facts)
 
     further : AgreesAt m t b other list (number_at (numbers t) rank) → AgreesTo m t b other list (rank + 1)
     further here r l = ⊎_elim (sofar r) (λ ge. let same : rank ≡ r = omega arith in subst (λ z. AgreesAt m t b other list (number_at (numbers t) z)) same here) (cases_lt r rank)
@@ -138,7 +137,7 @@ module _ (m : Meaning) (laws : Laws m) (t : Trace) (facts : Numbers t) (ranks : 
         at_rank = (
           λ yes i a hi hj before.
               let r = facts.every i (laws.held t b i hi).1 in
-              let lr : r.0 < 64 = omega (arith, r.1.within, few_numbers ranks t value) in
+              let lr : r.0 < 64 = omega (arith, r.1.within, few_numbers t facts) in
               let j = number_at (numbers t) rank in
               let at = r.1.at in
               let one = and_from (has (row_at alike rank) r.0) (has held r.0) ((pairs rank past r.0 lr).1 (subst (λ z. m.alike t z j) (sym at) a)) ((row r.0 lr).1 (subst (m.holds t b) (sym at) hi)) in

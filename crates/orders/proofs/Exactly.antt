@@ -6,7 +6,6 @@ use Rattle.opset.specs.declared.OpSet.{OpSet}
 use Rattle.opset.specs.Sets.{has}
 use Rattle.trace.specs.Traces.{Trace}
 use Rattle.ranks.specs.Numbers.{numbers, RankOf, Unlisted, Numbers}
-use Rattle.ranks.specs.Listings.{listed}
 use Rattle.ranks.specs.declared.listing.Ranks.{Ranks}
 use Rattle.models.specs.Meaning.{Meaning, Laws}
 use Rattle.models.specs.Rows.{Row}
@@ -18,22 +17,22 @@ use Rattle.orders.proofs.Parting.{each_all, each_here, Seen, UpTo, upto_marks, f
 abbrev pub New : Meaning → Trace → ℕ → List ℕ → ℕ → Type 0
 New m t k before j = m.holds t k j × (Stands before j → ⊥)
 
-module _ (m : Meaning) (laws : Laws m) (t : Trace) (facts : Numbers t) (ranks : Ranks) (value : listed ranks ≡ numbers t) (k : ℕ) (list : List ℕ) where
+module _ (m : Meaning) (laws : Laws m) (t : Trace) (facts : Numbers t) (ranks : Ranks) (value : ranks ≡ numbers t) (k : ℕ) (list : List ℕ) where
   exact_here : (i : ℕ) → i < length list → Exact m t k list → New m t k (take i list) (get_or list i 0)
   exact_here i l e = each_here (New m t k) list i l (λ before after j is. (e.only j (record { before = before; after = after; is = is }), e.once before after j is))
 
   -- a number of no operation
-  pub exact_unlisted : (i : ℕ) → i < length list → Unlisted (listed ranks) (get_or list i 0) → Exact m t k list → ⊥
+  pub exact_unlisted : (i : ℕ) → i < length list → Unlisted ranks (get_or list i 0) → Exact m t k list → ⊥
   exact_unlisted i l none e =
       let r = facts.every (get_or list i 0) (laws.held t k (get_or list i 0) (exact_here i l e).0).1 in
       subst (λ z. Unlisted z (get_or list i 0)) value none r.0 r.1
 
-  module _ (i : ℕ) (seen held : OpSet) (rank : ℕ) (l : i < length list) (sofar : UpTo (New m t k) t list i seen) (row : Row (m.holds t k) (numbers t) held) (there : RankOf (listed ranks) (get_or list i 0) rank) where
+  module _ (i : ℕ) (seen held : OpSet) (rank : ℕ) (l : i < length list) (sofar : UpTo (New m t k) t list i seen) (row : Row (m.holds t k) (numbers t) held) (there : RankOf ranks (get_or list i 0) rank) where
     at : RankOf (numbers t) (get_or list i 0) rank
     at = subst (λ z. RankOf z (get_or list i 0) rank) value there
 
     low : rank < 64
-    low = omega (arith, few_numbers ranks t value, at.within)
+    low = omega (arith, few_numbers t facts, at.within)
 
     pub exact_unheld : false ≡ has held rank → Exact m t k list → ⊥
     exact_unheld b e = both_ways (has held rank) (sym b) ((row rank low).1 (subst (m.holds t k) (sym at.at) (exact_here i l e).0))
@@ -51,7 +50,7 @@ module _ (m : Meaning) (laws : Laws m) (t : Trace) (facts : Numbers t) (ranks : 
   pub exact_decides : (i : ℕ) (seen held : OpSet) (answer : Bool) → length list ≤ i → UpTo (New m t k) t list i seen → Row (m.holds t k) (numbers t) held → Decides answer ((r : ℕ) → r < 64 → has held r ≡ true → has seen r ≡ true) → Decides answer (Exact m t k list)
   exact_decides i seen held answer l sofar row d =
       let all = each_all (New m t k) list i l sofar.each in
-      let every = wanted_decides t facts (few_numbers ranks t value) (m.holds t k) (λ j h. (laws.held t k j h).1) list seen held answer (subst (λ z. Seen t z seen) (take_all i list l) sofar.marked) row d in (
+      let every = wanted_decides t facts (few_numbers t facts) (m.holds t k) (λ j h. (laws.held t k j h).1) list seen held answer (subst (λ z. Seen t z seen) (take_all i list l) sofar.marked) row d in (
         λ b.
             record {
               only = λ j s. (all s.before s.after j s.is).0;

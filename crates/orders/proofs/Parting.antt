@@ -2,14 +2,12 @@
 use Rattle.std.proofs.Common.{◌≡◌, ℕ, suc, ◌+◌, ◌<◌, ◌≤◌, Bool, true, ◌&&◌, ◌||◌, eqb, ltb, ◌⊎◌, List, [], ◌∷◌, ◌++◌, length, get_or, take, drop, Decides, sym, refl, ap, ◌∙◌, subst, inl, inr, ⊎_elim, arith}
 use lib.ListN.{get_or-eq_default}
 use lib.Seq.{split_at}
-use Rattle.std.proofs.lemmas.List.{length-append, append_assoc, take_more, take_all, length-take-le}
+use Rattle.std.proofs.lemmas.List.{length-append, append_assoc, take_more, take_all}
 use Rattle.std.proofs.lemmas.Bool.{false≢true, both_ways, cases_lt, eqb-true, eq-eqb, lt-ltb, or_cases, or_left, or_right, and_parts, and_from}
 use Rattle.opset.specs.declared.OpSet.{OpSet}
 use Rattle.opset.specs.Sets.{has, Empty}
 use Rattle.trace.specs.Traces.{Trace, There}
 use Rattle.ranks.specs.Numbers.{numbers, number_at, RankOf, Unlisted, Numbers}
-use Rattle.ranks.specs.Listings.{listed}
-use Rattle.ranks.specs.declared.listing.Ranks.{Ranks}
 use Rattle.models.specs.Rows.{Row}
 use Rattle.orders.specs.Lists.{Stands}
 use Rattle.orders.proofs.Places.{not_parted}
@@ -107,9 +105,9 @@ seen_skips t list seen number s none =
       );
     }
 
--- no list of ranks is longer than a set of them can be
-pub few_numbers : (ranks : Ranks) (t : Trace) → listed ranks ≡ numbers t → length (numbers t) ≤ 64
-few_numbers ranks t e = omega (arith, ap length e, length-take-le ranks.count ranks.numbers (omega (arith, ranks.few, ranks.long)), ranks.few)
+-- no trace has more operations than a set can
+pub few_numbers : (t : Trace) → Numbers t → length (numbers t) ≤ 64
+few_numbers t facts = omega (arith, facts.count, facts.few)
 
 -- the first i numbers are P of what stands before them, and the set has their ranks
 pub record UpTo (P : List ℕ → ℕ → Type 0) (t : Trace) (list : List ℕ) (i : ℕ) (seen : OpSet) : Type 0 where

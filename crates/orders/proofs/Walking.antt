@@ -84,33 +84,33 @@ module _ (m : Meaning) (t : Trace) (numbers : List ℕ) (k : ℕ) (list : List �
             disagrees = λ a. both_ways answer not (told.1 (subst (λ z. Agrees m t k z list) (sym next.here) a));
           }
 
--- the first n views are gone through, and agree with those before them
-pub record Checked (m : Meaning) (t : Trace) (orders : List (List ℕ)) (rest : List ℕ) (n : ℕ) (left : List ℕ) : Type 0 where
-  pub walked : Walked orders rest (n + 1) left
-  pub agree : AgreeBefore m t orders (n + 1)
+-- the views before view k are gone through, and agree with those before them
+pub record Checked (m : Meaning) (t : Trace) (orders : List (List ℕ)) (rest : List ℕ) (k : ℕ) (left : List ℕ) : Type 0 where
+  pub walked : Walked orders rest k left
+  pub agree : AgreeBefore m t orders k
 
 abbrev pub Checking : Meaning → Trace → List ℕ → ℕ → List ℕ → Type 0
-Checking m t numbers n left = (orders : List (List ℕ)) (rest : List ℕ) → numbers ≡ written orders ++ rest → length orders ≡ m.views (processor_count t) t.variables → Checked m t orders rest n left
+Checking m t numbers k left = (orders : List (List ℕ)) (rest : List ℕ) → numbers ≡ written orders ++ rest → length orders ≡ m.views (processor_count t) t.variables → Checked m t orders rest k left
 
 module _ (m : Meaning) (t : Trace) (numbers : List ℕ) where
-  pub check_start : Checking m t numbers 0 numbers
+  pub check_start : Checking m t numbers 1 numbers
   check_start orders rest e count = record { walked = walk_start orders rest numbers e; agree = λ b l a low high. absurd (omega arith) }
 
-  pub check_ends : (end n : ℕ) (left : List ℕ) → end ≡ m.views (processor_count t) t.variables → end ≤ n → Checking m t numbers n left → (orders : List (List ℕ)) (rest : List ℕ) → numbers ≡ written orders ++ rest → length orders ≡ m.views (processor_count t) t.variables → AgreeBefore m t orders (suc (length orders))
-  check_ends end n left is l c orders rest e count b lb = (c orders rest e count).agree b (omega (arith, is, count, l, lb))
+  pub check_ends : (end k : ℕ) (left : List ℕ) → end ≡ m.views (processor_count t) t.variables → end < k → Checking m t numbers k left → (orders : List (List ℕ)) (rest : List ℕ) → numbers ≡ written orders ++ rest → length orders ≡ m.views (processor_count t) t.variables → AgreeBefore m t orders (suc (length orders))
+  check_ends end k left is l c orders rest e count b lb = (c orders rest e count).agree b (omega (arith, is, count, l, lb))
 
-  module _ (end n : ℕ) (left : List ℕ) (is : end ≡ m.views (processor_count t) t.variables) (c : Checking m t numbers n left) (l : n < end) (orders : List (List ℕ)) (rest : List ℕ) (e : numbers ≡ written orders ++ rest) (count : length orders ≡ m.views (processor_count t) t.variables) where
-    there : n + 1 ≤ length orders
+  module _ (end k : ℕ) (left : List ℕ) (is : end ≡ m.views (processor_count t) t.variables) (c : Checking m t numbers k left) (l : k ≤ end) (orders : List (List ℕ)) (rest : List ℕ) (e : numbers ≡ written orders ++ rest) (count : length orders ≡ m.views (processor_count t) t.variables) where
+    there : k ≤ length orders
     there = omega (arith, is, count, l)
 
     pub check_stops : EndsEarly left → ⊥
-    check_stops early = walk_ends orders rest (n + 1) left (c orders rest e count).walked there early
+    check_stops early = walk_ends orders rest k left (c orders rest e count).walked there early
 
     module _ (list after : List ℕ) (p : Parts left list after) where
-      next : Next orders rest (n + 1) list after
-      next = walk_on orders rest (n + 1) left (c orders rest e count).walked there list after p
+      next : Next orders rest k list after
+      next = walk_on orders rest k left (c orders rest e count).walked there list after p
 
-      pub check_on : (found : Option ℕ) → is_some found ≡ false → ((os : List (List ℕ)) (r : List ℕ) → numbers ≡ written os ++ r → n + 1 ≤ length os → MatchOption found (AgreesWithEarlier m t os (n + 1) list) (DisagreesWith m t os (n + 1) list)) → Checked m t orders rest (n + 1) after
+      pub check_on : (found : Option ℕ) → is_some found ≡ false → ((os : List (List ℕ)) (r : List ℕ) → numbers ≡ written os ++ r → k ≤ length os → MatchOption found (AgreesWithEarlier m t os k list) (DisagreesWith m t os k list)) → Checked m t orders rest (k + 1) after
       check_on (Some a) not told = absurd (true≢false not)
       check_on None not told =
           record {
@@ -118,15 +118,15 @@ module _ (m : Meaning) (t : Trace) (numbers : List ℕ) where
             agree = λ b lb.
                 ⊎_elim
                 ((c orders rest e count).agree b)
-                (λ ge. let same : n + 1 ≡ b = omega arith in subst (λ z. AgreesWithEarlier m t orders z (view_at orders z)) same (subst (AgreesWithEarlier m t orders (n + 1)) next.here (told orders rest e there)))
-                (cases_lt b (n + 1));
+                (λ ge. let same : k ≡ b = omega arith in subst (λ z. AgreesWithEarlier m t orders z (view_at orders z)) same (subst (AgreesWithEarlier m t orders k) next.here (told orders rest e there)))
+                (cases_lt b k);
           }
 
-      pub check_fails : (found : Option ℕ) → is_some found ≡ true → ((os : List (List ℕ)) (r : List ℕ) → numbers ≡ written os ++ r → n + 1 ≤ length os → MatchOption found (AgreesWithEarlier m t os (n + 1) list) (DisagreesWith m t os (n + 1) list)) → Disagrees m t orders (n + 1)
+      pub check_fails : (found : Option ℕ) → is_some found ≡ true → ((os : List (List ℕ)) (r : List ℕ) → numbers ≡ written os ++ r → k ≤ length os → MatchOption found (AgreesWithEarlier m t os k list) (DisagreesWith m t os k list)) → Disagrees m t orders k
       check_fails None some told = absurd (false≢true some)
       check_fails (Some a) some told =
           record {
-            view = (omega arith, omega (arith, there, count));
+            view = (omega (arith, with.low, with.earlier), omega (arith, there, count));
             other = a;
             low = with.low;
             earlier = with.earlier;
@@ -134,5 +134,5 @@ module _ (m : Meaning) (t : Trace) (numbers : List ℕ) where
             first = λ other b low lt lb. (c orders rest e count).agree b lb other low lt;
           }
         where
-          with : DisagreesWith m t orders (n + 1) (view_at orders (n + 1)) a
-          with = subst (λ z. DisagreesWith m t orders (n + 1) z a) next.here (told orders rest e there)
+          with : DisagreesWith m t orders k (view_at orders k) a
+          with = subst (λ z. DisagreesWith m t orders k z a) next.here (told orders rest e there)

@@ -5,6 +5,9 @@ use Rattle.trace.specs.Operations.{Within}
 use Rattle.trace.specs.Traces.{Trace, processor_count, Complete}
 use Rattle.trace.specs.Completeness.{completeness_answer}
 use Rattle.models.specs.Meaning.{Meaning, View}
+use Rattle.orders.specs.declared.finding.Clause.{Clause}
+use Rattle.orders.specs.declared.finding.Finding.{Finding}
+use Rattle.orders.specs.Findings.{clause_number, finding_number}
 use Rattle.orders.specs.Orders.{view_at, Exact, Ordered, Seeing, Agrees, Explains, Meets}
 
 -- orders in writing: for each view how many operations it lists, and then these
@@ -39,9 +42,9 @@ pub record Kept (m : Meaning) (t : Trace) (k : ℕ) (numbers rest : List ℕ) : 
   pub explains : Explains m t k list
 
 -- a list that keeps its clauses is passed over, and of another the first clause that it breaks is told
-abbrev pub Passing : Meaning → Trace → ℕ → List ℕ → Result (Bor (List ℕ)) ℕ → Type 0
+abbrev pub Passing : Meaning → Trace → ℕ → List ℕ → Result (Bor (List ℕ)) Clause → Type 0
 Passing m t k numbers (Ok rest) = Kept m t k numbers rest.now
-Passing m t k numbers (Err clause) = Breaks m t k numbers clause
+Passing m t k numbers (Err clause) = Breaks m t k numbers (clause_number clause)
 
 -- view `other` is one before view k, and the list of view k does not agree with its
 pub record DisagreesWith (m : Meaning) (t : Trace) (orders : List (List ℕ)) (k : ℕ) (list : List ℕ) (other : ℕ) : Type 0 where
@@ -71,6 +74,12 @@ pub record Begins (m : Meaning) (t : Trace) (numbers : List ℕ) (orders : List 
   pub is : numbers ≡ written orders ++ rest
   pub each : (k : ℕ) → Within 1 (length orders) k → Explains m t k (view_at orders k)
 
+-- the numbers begin with a list for each view, and these keep their own clauses
+pub record Whole (m : Meaning) (t : Trace) (numbers rest : List ℕ) : Type 0 where
+  pub orders : List (List ℕ)
+  pub begins : Begins m t numbers orders rest
+  pub count : length orders ≡ m.views (processor_count t) t.variables
+
 -- what is found where a list for each view is there
 pub data FindsLast (m : Meaning) (t : Trace) (orders : List (List ℕ)) (rest : List ℕ) : ℕ → Type 0 where
   disagrees : (k : ℕ) → Disagrees m t orders k → FindsLast m t orders rest (400 + k)
@@ -85,6 +94,11 @@ pub data Finds (m : Meaning) (t : Trace) (numbers : List ℕ) : ℕ → Type 0 w
   whole : (orders : List (List ℕ)) (rest : List ℕ) (value : ℕ)
       → Begins m t numbers orders rest → length orders ≡ m.views (processor_count t) t.variables
       → FindsLast m t orders rest value → Finds m t numbers value
+
+-- the lists of all views are passed over where they keep their own clauses, else the first thing that is wrong is told
+abbrev pub PassingAll : Meaning → Trace → List ℕ → Result (Bor (List ℕ)) Finding → Type 0
+PassingAll m t numbers (Ok rest) = Whole m t numbers rest.now
+PassingAll m t numbers (Err f) = Finds m t numbers (finding_number f)
 
 -- the numbers are orders in writing, and these meet the model
 abbrev pub Passes : Meaning → Trace → List ℕ → Type 0

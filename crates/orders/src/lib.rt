@@ -2,6 +2,7 @@
 #![tactic(auto)]
 
 pub mod clauses;
+pub mod finding;
 pub mod inspection;
 pub mod legality;
 pub mod verdicts;

@@ -144,6 +144,7 @@ module _ (t : Trace) where
   facts few =
       let all = members (100 * processor_count t) 101 in
       record {
+        few = few;
         count = blocks 100 refl few (processor_count t) 1 (omega arith) (omega arith);
         there = λ r h. (All-get_or (λ k. (101 ≤ k) × There t k) (numbers t) r 0 h all).1;
         every = λ i e. let f = found (100 * processor_count t) 101 i (outside i e).0 (outside i e).1 e in (f.0, record { within = f.1; at = f.2 });

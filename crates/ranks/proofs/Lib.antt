@@ -1,1 +1,3 @@
 pub mod Facts
+pub mod Searching
+pub mod Going

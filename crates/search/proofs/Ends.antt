@@ -1,6 +1,6 @@
 -- What a deeper call of the search says, as its caller says it: the places of one flat list, parted into views.
-use Rattle.std.proofs.Common.{◌≡◌, ℕ, zero, suc, ◌+◌, ◌-◌, ◌*◌, ◌<◌, ◌≤◌, Bool, true, false, List, [], ◌∷◌, ◌++◌, length, get_or, take, drop, set, MatchBool, sym, ap, ◌∙◌, subst, ap₂, subst₂, arith}
-use Rattle.std.proofs.lemmas.List.{drop-take, drop_all, drop_more, drop-append-le, get_or-take, get_or_push, take-take, take_at, take_more_set, length-take-le}
+use Rattle.std.proofs.Common.{◌≡◌, ℕ, suc, ◌+◌, ◌*◌, ◌<◌, ◌≤◌, Bool, true, false, List, [], ◌∷◌, ◌++◌, length, get_or, take, drop, MatchBool, sym, subst, subst₂, arith}
+use Rattle.std.proofs.lemmas.List.{drop_all, drop_more}
 use Rattle.opset.specs.declared.OpSet.{OpSet}
 use Rattle.opset.specs.Sets.{has, size, Empty}
 use Rattle.models.specs.Rows.{row_at}
@@ -9,75 +9,33 @@ use Rattle.search.specs.Steps.{is_in, views_of, view_of, later_than, asks_more, 
 use Rattle.search.proofs.Lists.{in_at}
 use Rattle.search.proofs.Turns.{Tried, foremost_done, foremost_next, stuck_next, foremost_more}
 
--- ---- the places
-
--- the part of the view that is placed, as the code cuts it out
-pub segment : (order : List ℕ) (from placed : ℕ) → from ≤ placed → drop from (take placed order) ≡ take (placed - from) (drop from order)
-segment order from placed f =
-    let e : placed ≡ from + (placed - from) = omega arith in
-    ap (λ (k : ℕ). drop from (take k order)) e ∙ drop-take from (placed - from) order
-
-pub nothing_placed : (order : List ℕ) (placed : ℕ) → placed ≤ length order → drop placed (take placed order) ≡ []
-nothing_placed order placed l = drop_all placed (take placed order) (omega (arith, length-take-le placed order l))
-
--- one more is placed, where `s` is what was placed
-pub one_more : (order s : List ℕ) (from placed i : ℕ) → take placed order ≡ s → length s ≡ placed → from ≤ placed → placed < length order → drop from (take (placed + 1) (set order placed i)) ≡ drop from s ++ i ∷ []
-one_more order s from placed i e long f l =
-    ap (drop from) (take_more_set order placed i l ∙ ap (λ r. r ++ i ∷ []) e) ∙ drop-append-le from s (i ∷ []) (omega arith)
-
--- what a call with one more placed left of the order
-pub record Left (exit s : List ℕ) (placed i : ℕ) : Type 0 where
-  pub kept : take placed exit ≡ s
-  pub at : drop placed exit ≡ i ∷ drop (placed + 1) exit
-
-pub left_more : (order exit s : List ℕ) (placed i : ℕ) → take placed order ≡ s → length s ≡ placed → placed < length order → length exit ≡ length order → take (placed + 1) exit ≡ take (placed + 1) (set order placed i) → Left exit s placed i
-left_more order exit s placed i e long l same h =
-    let front : take (placed + 1) exit ≡ s ++ i ∷ [] = h ∙ take_more_set order placed i l ∙ ap (λ r. r ++ i ∷ []) e in
-    let here : get_or exit placed 0 ≡ i = sym (get_or-take (placed + 1) exit placed 0 (omega arith)) ∙ ap (λ xs. get_or xs placed 0) front ∙ get_or_push s i 0 placed long in
-    record {
-      kept = sym (take-take placed (placed + 1) exit (omega arith)) ∙ ap (take placed) front ∙ take_at s (i ∷ []) placed long;
-      at = drop_more exit placed 0 (omega arith) ∙ ap (λ (x : ℕ). x ∷ drop (placed + 1) exit) here;
-    }
-
-part_more : (exit : List ℕ) (placed i n m : ℕ) → drop placed exit ≡ i ∷ drop (placed + 1) exit → m + 1 ≡ n → (take n (drop placed exit) ≡ i ∷ take m (drop (placed + 1) exit)) × (drop n (drop placed exit) ≡ drop m (drop (placed + 1) exit))
-part_more exit placed i n m e count =
-    let more : n ≡ suc m = omega arith in
-    (ap₂ (λ (k : ℕ) (xs : List ℕ). take k xs) more e, ap₂ (λ (k : ℕ) (xs : List ℕ). drop k xs) more e)
-
 -- ---- the views
 
 module _ (tables : Tables) where
-  pub views_long : length (views_of tables) ≡ tables.views
-  views_long = length-take-le tables.views tables.held (omega (arith, tables.few, tables.wide))
-
   module _ (k : ℕ) where
-    pub view_at_place : k < tables.views → row_at (views_of tables) k ≡ view_of tables k
-    view_at_place l = get_or-take tables.views tables.held k (record { 0 = 0 }) l
-
     -- the views from one on are it and those after it
-    views_from : k < tables.views → drop k (views_of tables) ≡ view_of tables k ∷ later_than tables k
-    views_from l = drop_more (views_of tables) k (record { 0 = 0 }) (omega (arith, views_long)) ∙ ap (λ v. v ∷ later_than tables k) (view_at_place l)
+    views_from : k < length tables.held → drop k (views_of tables) ≡ view_of tables k ∷ later_than tables k
+    views_from l = drop_more (views_of tables) k (record { 0 = 0 }) l
 
     -- there are none after the last
-    pub later_none : tables.views ≤ k + 1 → later_than tables k ≡ []
-    later_none l = drop_all (k + 1) (views_of tables) (omega (arith, views_long))
+    pub later_none : length tables.held ≤ k + 1 → later_than tables k ≡ []
+    later_none l = drop_all (k + 1) (views_of tables) l
 
   -- the views after one are the next and those after that
-  pub later_more : (k : ℕ) → k + 1 < tables.views → later_than tables k ≡ view_of tables (k + 1) ∷ later_than tables (k + 1)
+  pub later_more : (k : ℕ) → k + 1 < length tables.held → later_than tables k ≡ view_of tables (k + 1) ∷ later_than tables (k + 1)
   later_more k l = views_from (k + 1) l
 
   -- all views are the first and those after it
-  pub views_first : 0 < tables.views → views_of tables ≡ view_of tables 0 ∷ later_than tables 0
+  pub views_first : 0 < length tables.held → views_of tables ≡ view_of tables 0 ∷ later_than tables 0
   views_first l = views_from 0 l
 
 -- views of at most 64 operations each have room
-total_le : (n : ℕ) (views : List OpSet) → ((k : ℕ) → size (row_at views k) ≤ 64) → total (take n views) ≤ 64 * n
-total_le zero views small = omega arith
-total_le (suc n) [] small = omega arith
-total_le (suc n) (v ∷ views) small = omega (arith, small 0, total_le n views (λ k. small (suc k)))
+total_le : (views : List OpSet) → ((k : ℕ) → size (row_at views k) ≤ 64) → total views ≤ 64 * length views
+total_le [] small = omega arith
+total_le (v ∷ views) small = omega (arith, small 0, total_le views (λ k. small (suc k)))
 
 pub room_for_all : (tables : Tables) → total (views_of tables) ≤ 1024
-room_for_all tables = omega (arith, total_le tables.views tables.held tables.sized, tables.few)
+room_for_all tables = omega (arith, total_le tables.held tables.sized, tables.few)
 
 -- ---- what is said of them
 
@@ -102,18 +60,17 @@ module _ (tables : Tables) (needs : ℕ → ℕ → Bool) (view : OpSet) (s : Li
         go true w = foremost_next tables needs view s rest latest start none v later' (take (size v) xs) (cut later' (drop (size v) xs)) w
         go false w = stuck_next tables needs view s rest latest start none v later' w
 
-  pub says_more : (later : List OpSet) (candidates : OpSet) (i : ℕ) (s' exit : List ℕ) (placed n m : ℕ) → Tried tables needs view s later rest candidates → has candidates i ≡ true → ((k : ℕ) → k < i → has candidates k ≡ false) → Placeable tables needs view s i
-      → s' ≡ s ++ i ∷ [] → drop placed exit ≡ i ∷ drop (placed + 1) exit → m + 1 ≡ n
-      → Foremost tables needs view s' later (take m (drop (placed + 1) exit)) (cut later (drop m (drop (placed + 1) exit)))
-      → Foremost tables needs view s later (take n (drop placed exit)) (cut later (drop n (drop placed exit)))
-  says_more later candidates i s' exit placed n m tried h low p e at count foremost =
-      let parts = part_more exit placed i n m at count in
-      subst₂ (λ (t u : List ℕ). Foremost tables needs view s later t (cut later u)) (sym parts.0) (sym parts.1)
-      (foremost_more tables needs view s rest latest start later candidates i (take m (drop (placed + 1) exit)) (cut later (drop m (drop (placed + 1) exit))) tried h low p
-      (subst (λ q. Foremost tables needs view q later (take m (drop (placed + 1) exit)) (cut later (drop m (drop (placed + 1) exit)))) e foremost))
+  pub says_more : (later : List OpSet) (candidates : OpSet) (i : ℕ) (s' xs : List ℕ) (n m : ℕ) → Tried tables needs view s later rest candidates → has candidates i ≡ true → ((k : ℕ) → k < i → has candidates k ≡ false) → Placeable tables needs view s i
+      → s' ≡ s ++ i ∷ [] → m + 1 ≡ n
+      → Foremost tables needs view s' later (take m xs) (cut later (drop m xs)) → Foremost tables needs view s later (take n (i ∷ xs)) (cut later (drop n (i ∷ xs)))
+  says_more later candidates i s' xs n m tried h low p e count foremost =
+      let more : suc m ≡ n = omega (arith, count) in
+      subst (λ (k : ℕ). Foremost tables needs view s later (take k (i ∷ xs)) (cut later (drop k (i ∷ xs)))) more
+      (foremost_more tables needs view s rest latest start later candidates i (take m xs) (cut later (drop m xs)) tried h low p
+      (subst (λ q. Foremost tables needs view q later (take m xs) (cut later (drop m xs))) e foremost))
 
 -- what is said of the first view is said of all
-pub says_all : (tables : Tables) (xs : List ℕ) (r : Bool) → 0 < tables.views
+pub says_all : (tables : Tables) (xs : List ℕ) (r : Bool) → 0 < length tables.held
     → MatchBool r (Foremost tables (asks tables.before) (view_of tables 0) [] (later_than tables 0) (take (size (view_of tables 0)) xs) (cut (later_than tables 0) (drop (size (view_of tables 0)) xs))) (Stuck tables (asks tables.before) (view_of tables 0) [] (later_than tables 0))
     → MatchBool r (FirstFill tables (cut (views_of tables) xs)) (NoFill tables)
 says_all tables xs r l = go r

@@ -7,10 +7,8 @@ use Rattle.std.proofs.lemmas.Bool.{cases_lt, eqb-true, or_cases}
 use lib.Seq.{split_at}
 use Rattle.trace.specs.Operations.{Within}
 use Rattle.trace.specs.Traces.{Trace, There}
-use Rattle.opset.specs.Sets.{has}
 use Rattle.ranks.specs.Numbers.{numbers, number_at, RankOf, Numbers}
 use Rattle.models.specs.Meaning.{Meaning, Laws}
-use Rattle.models.specs.Rows.{row_at}
 use Rattle.orders.specs.Lists.{Stands}
 use Rattle.orders.specs.Orders.{view_at, Meets}
 use Rattle.orders.specs.Starts.{Placed, AllPlaced, Standing}
@@ -18,9 +16,8 @@ use Rattle.orders.proofs.Places.{not_parted}
 use Rattle.orders.proofs.Standing.{start_stands, full_meets}
 use Rattle.search.specs.declared.tables.Tables.{Tables}
 use Rattle.search.specs.Tables.{Tabled}
-use Rattle.search.specs.Steps.{is_in, views_of, view_of, asks, Placeable, GoesOn, FillsAll}
+use Rattle.search.specs.Steps.{is_in, views_of, view_of, asks, Placeable, FillsAll}
 use Rattle.search.proofs.Asking.{asks_after, FillsEach, fills_each, each_fills, goes_placeable, placeable_goes}
-use Rattle.search.proofs.Ends.{views_long, view_at_place}
 use Rattle.search.proofs.Mapped.{stands_in, in_stands, unmapped, stands_map}
 use Rattle.search.proofs.Numbering.{numbered, numbered_at, Ranked, ranked_front, rank_stands, has_holds, has_rank, holds_has, placeable_placed, placed_placeable}
 
@@ -28,20 +25,19 @@ module _ (m : Meaning) (laws : Laws m) (t : Trace) (facts : Numbers t) (tables :
   -- ---- from ranks to numbers
 
   module _ (lists : List (List ℕ)) (fills : FillsEach tables (asks tables.before) (views_of tables) lists) where
-    placeable_at : (k : ℕ) → k < tables.views → (before after : List ℕ) (j : ℕ) → get_or lists k [] ≡ before ++ j ∷ after → Placeable tables (asks_after tables (asks tables.before) (take k lists)) (view_of tables k) before j
+    placeable_at : (k : ℕ) → k < length tables.held → (before after : List ℕ) (j : ℕ) → get_or lists k [] ≡ before ++ j ∷ after → Placeable tables (asks_after tables (asks tables.before) (take k lists)) (view_of tables k) before j
     placeable_at k l before after j e =
-        subst (λ v. Placeable tables (asks_after tables (asks tables.before) (take k lists)) v before j) (view_at_place tables k l)
-        (goes_placeable tables (asks_after tables (asks tables.before) (take k lists)) (row_at (views_of tables) k) [] (get_or lists k []) before after j (fills.goes k (omega (arith, views_long tables))) e)
+        goes_placeable tables (asks_after tables (asks tables.before) (take k lists)) (view_of tables k) [] (get_or lists k []) before after j (fills.goes k l) e
 
     ranked : (k : ℕ) → Ranked t (get_or lists k [])
     ranked k i s =
         ⊎_elim
         (λ l. has_rank m laws t facts tables good k l i (placeable_at k l s.before s.after i s.is).held)
-        (λ ge. absurd (not_parted s.before s.after i (sym (get_or_past lists k [] (omega (arith, fills.count, views_long tables))) ∙ s.is)))
-        (cases_lt k tables.views)
+        (λ ge. absurd (not_parted s.before s.after i (sym (get_or_past lists k [] (omega (arith, fills.count))) ∙ s.is)))
+        (cases_lt k (length tables.held))
 
-    count : length (numbered t lists) ≡ tables.views
-    count = length-map lists (map (number_at (numbers t))) ∙ fills.count ∙ views_long tables
+    count : length (numbered t lists) ≡ length tables.held
+    count = length-map lists (map (number_at (numbers t))) ∙ fills.count
 
     fills_stand : Standing m t (numbered t lists) []
     fills_stand = record { done = done; full = full; next = λ before after j e. absurd (not_parted before after j e) }
@@ -49,18 +45,18 @@ module _ (m : Meaning) (laws : Laws m) (t : Trace) (facts : Numbers t) (tables :
         done : (k : ℕ) → Within 1 (length (numbered t lists)) k → AllPlaced m t (numbered t lists) k (view_at (numbered t lists) k)
         done zero w before after j e = absurd (omega (arith, w.0))
         done (suc k) w before after j e =
-            let l : k < tables.views = omega (arith, w.1, count) in
+            let l : k < length tables.held = omega (arith, w.1, count) in
             let u = unmapped (number_at (numbers t)) (get_or lists k []) before after j (sym (numbered_at t lists k) ∙ e) in
-            let p = placeable_placed m laws t facts tables good lists ranked k l (omega (arith, l, fills.count, views_long tables)) u.first u.rank (ranked_front t (get_or lists k []) u.first u.second u.rank u.is (ranked k)) (placeable_at k l u.first u.second u.rank u.is) in
+            let p = placeable_placed m laws t facts tables good lists ranked k l (omega (arith, l, fills.count)) u.first u.rank (ranked_front t (get_or lists k []) u.first u.second u.rank u.is (ranked k)) (placeable_at k l u.first u.second u.rank u.is) in
             subst₂ (λ (front : List ℕ) (x : ℕ). Placed m t (numbered t lists) (suc k) front x) u.left u.at p
 
         full : (k i : ℕ) → Within 1 (length (numbered t lists)) k → m.holds t k i → Stands (view_at (numbered t lists) k) i
         full zero i w h = absurd (omega (arith, w.0))
         full (suc k) i w h =
-            let l : k < tables.views = omega (arith, w.1, count) in
+            let l : k < length tables.held = omega (arith, w.1, count) in
             let r = facts.every i (laws.held t (suc k) i h).1 in
             let has_it = holds_has m laws t facts tables good k l r.0 r.1.within (subst (m.holds t (suc k)) (sym r.1.at) h) in
-            let in_it = fills.full k (omega (arith, l, views_long tables)) r.0 (ap (λ v. has v r.0) (view_at_place tables k l) ∙ has_it) in
+            let in_it = fills.full k l r.0 has_it in
             subst (Stands (view_at (numbered t lists) (suc k))) r.1.at
             (subst (λ z. Stands z (number_at (numbers t) r.0)) (sym (numbered_at t lists k)) (stands_map (number_at (numbers t)) (get_or lists k []) r.0 (in_stands (get_or lists k []) r.0 in_it)))
 
@@ -71,26 +67,22 @@ module _ (m : Meaning) (laws : Laws m) (t : Trace) (facts : Numbers t) (tables :
 
   -- ---- from numbers to ranks
 
-  module _ (lists : List (List ℕ)) (ranked : (k : ℕ) → Ranked t (get_or lists k [])) (long : length lists ≡ tables.views) (stands : Standing m t (numbered t lists) []) where
-    within : (k : ℕ) → k < tables.views → Within 1 (length (numbered t lists)) (suc k)
+  module _ (lists : List (List ℕ)) (ranked : (k : ℕ) → Ranked t (get_or lists k [])) (long : length lists ≡ length tables.held) (stands : Standing m t (numbered t lists) []) where
+    within : (k : ℕ) → k < length tables.held → Within 1 (length (numbered t lists)) (suc k)
     within k l = (omega arith, omega (arith, l, long, length-map lists (map (number_at (numbers t)))))
 
     stand_fills : FillsEach tables (asks tables.before) (views_of tables) lists
     stand_fills =
         record {
-          count = long ∙ sym (views_long tables);
-          goes = λ k below.
-              let l : k < tables.views = omega (arith, below, views_long tables) in
-              subst (λ v. GoesOn tables (asks_after tables (asks tables.before) (take k lists)) v [] (get_or lists k [])) (sym (view_at_place tables k l))
-              (placeable_goes tables (asks_after tables (asks tables.before) (take k lists)) (view_of tables k) [] (get_or lists k [])
+          count = long;
+          goes = λ k l.
+              placeable_goes tables (asks_after tables (asks tables.before) (take k lists)) (view_of tables k) [] (get_or lists k [])
               (λ before after j e.
               placed_placeable m laws t facts tables good lists ranked k l (omega (arith, l, long)) before j (ranked_front t (get_or lists k []) before after j e (ranked k))
               (ranked k j (record { before = before; after = after; is = e }))
               (stands.done (suc k) (within k l) (map (number_at (numbers t)) before) (map (number_at (numbers t)) after) (number_at (numbers t) j)
-              (numbered_at t lists k ∙ ap (map (number_at (numbers t))) e ∙ map-append (number_at (numbers t)) before (j ∷ after)))));
-          full = λ k below i h.
-              let l : k < tables.views = omega (arith, below, views_long tables) in
-              let has_it = ap (λ v. has v i) (sym (view_at_place tables k l)) ∙ h in
+              (numbered_at t lists k ∙ ap (map (number_at (numbers t))) e ∙ map-append (number_at (numbers t)) before (j ∷ after))));
+          full = λ k l i has_it.
               stands_in (get_or lists k []) i
               (rank_stands t facts (get_or lists k []) i (ranked k) (has_rank m laws t facts tables good k l i has_it)
               (subst (λ z. Stands z (number_at (numbers t) i)) (numbered_at t lists k) (stands.full (suc k) (number_at (numbers t) i) (within k l) (has_holds m laws t facts tables good k l i has_it))));
@@ -152,7 +144,7 @@ module _ (m : Meaning) (laws : Laws m) (t : Trace) (facts : Numbers t) (tables :
   meet_fills orders meets =
       let r = rank_lists orders (meets_there orders meets) in
       let whole = subst (Meets m t) (sym r.is) meets in
-      let long : length r.lists ≡ tables.views = sym (length-map r.lists (map (number_at (numbers t)))) ∙ whole.count ∙ sym good.views in
+      let long : length r.lists ≡ length tables.held = sym (length-map r.lists (map (number_at (numbers t)))) ∙ whole.count ∙ sym good.views in
       let start = start_stands m laws t (numbered t r.lists) (numbered t r.lists) [] whole (record { short = omega arith; lists = λ k w. refl; rest = view_at (numbered t r.lists) (suc (length (numbered t r.lists))); parted = refl }) in
       record {
         lists = r.lists;

@@ -1,20 +1,20 @@
 -- The parts of the tables, filled view after view and rank after rank.
-use Rattle.std.proofs.Common.{◌≡◌, ℕ, zero, suc, ◌+◌, ◌^◌, ◌<◌, ◌≤◌, true, List, [], ◌∷◌, length, get_or, set, replicate, Some, sym, ap, ◌∙◌, subst, ⊎_elim, arith}
+use Rattle.std.proofs.Common.{◌≡◌, ℕ, zero, suc, ◌+◌, ◌^◌, ◌<◌, ◌≤◌, true, cond, nat_lt, List, [], ◌∷◌, ◌++◌, length, get_or, set, replicate, Some, refl, sym, ap, ◌∙◌, subst, ⊎_elim, arith}
 use Rattle.std.specs.List.{AllByRecursion, slice_get}
 use Rattle.std.proofs.ByRecursion.{All-get_or}
-use Rattle.std.proofs.lemmas.List.{length-set, length-replicate, get_or-set_same, get_or-set_other, get_or_past, get_or-replicate}
-use Rattle.std.proofs.lemmas.Bool.{both_ways, cases_eq, cases_lt}
+use Rattle.std.proofs.lemmas.List.{length-set, length-replicate, length_push, get_or_push, get_or_append_left, get_or-set_same, get_or-set_other, get_or_past, get_or-replicate}
+use Rattle.std.proofs.lemmas.Bool.{both_ways, cases_eq, cases_lt, cond-true, lt-ltb}
 use Rattle.trace.specs.declared.operation.Operation.{Operation}
-use Rattle.trace.specs.Operations.{processor_of, position_of, Fitting}
+use Rattle.trace.specs.Operations.{processor_of, position_of, Fitting, unused}
 use Rattle.trace.specs.Traces.{Trace, processor_count, lane_at, positioned, WellFormed}
 use Rattle.opset.specs.declared.OpSet.{OpSet}
-use Rattle.opset.specs.Sets.{has, size, Empty}
+use Rattle.opset.specs.Sets.{has, size}
 use Rattle.opset.proofs.Sets.{has_none, has_below, size_none, size_le}
 use Rattle.ranks.specs.Numbers.{numbers, number_at}
 use Rattle.models.specs.Meaning.{Meaning, Is}
 use Rattle.models.specs.Rows.{Row, row_at}
 use Rattle.orders.proofs.Nothing.{none_and_some}
-use Rattle.search.specs.Filling.{unused, operation_of, Held, Listing}
+use Rattle.search.specs.Filling.{operation_of, Held, Listing}
 
 -- ---- the sets that the views hold
 
@@ -26,6 +26,17 @@ at_set P xs n x d l p k q =
     (λ ne. subst P (sym (get_or-set_other xs n k x d ne)) q)
     (cases_eq k n)
 
+at_push : {X : Type 0} (P : X → Type 0) (xs : List X) (x d : X) → P x → ((k : ℕ) → P (get_or xs k d)) → (k : ℕ) → P (get_or (xs ++ x ∷ []) k d)
+at_push P xs x d p q k =
+    ⊎_elim
+    (λ e. subst P (sym (get_or_push xs x d k (sym e))) p)
+    (λ ne.
+    ⊎_elim
+    (λ l. subst P (sym (get_or_append_left xs (x ∷ []) d k l)) (q k))
+    (λ ge. subst P (get_or_past xs k d ge ∙ sym (get_or_past (xs ++ x ∷ []) k d (omega (arith, length_push xs x)))) (q k))
+    (cases_lt k (length xs)))
+    (cases_eq k (length xs))
+
 at_replicate : {X : Type 0} (P : X → Type 0) (n : ℕ) (x d : X) → P x → P d → (k : ℕ) → P (get_or (replicate n x) k d)
 at_replicate P n x d p q k =
     ⊎_elim
@@ -34,30 +45,32 @@ at_replicate P n x d p q k =
     (cases_lt k n)
 
 module _ (m : Meaning) (t : Trace) where
-  empty_within : (s : OpSet) → Empty s → (i : ℕ) → has s i ≡ true → i < 64
-  empty_within s e i b = absurd (both_ways (has s i) (e i) b)
-
-  pub held_none : (s : OpSet) → Empty s → Held m t 0 (replicate 16 s)
-  held_none s e =
+  pub held_none : Held m t 0 []
+  held_none =
       record {
         rows = λ k l. absurd (omega arith);
-        long = length-replicate 16 s;
-        within = at_replicate (λ x. (i : ℕ) → has x i ≡ true → i < 64) 16 s (record { 0 = 0 }) (empty_within s e) (empty_within _ has_none);
-        sized = at_replicate (λ x. size x ≤ 64) 16 s (record { 0 = 0 }) (omega (arith, size_none s e)) (omega (arith, size_none _ has_none));
+        long = refl;
+        within = λ k i b. absurd (both_ways (has (record { 0 = 0 }) i) (has_none i) b);
+        sized = λ k. omega (arith, size_none (record { 0 = 0 }) has_none);
       }
 
-  pub held_more : (n : ℕ) (held : List OpSet) (row : OpSet) → n < 16 → row.0 < 2 ^ 64 → Held m t n held → Row (m.holds t (suc n)) (numbers t) row → Held m t (n + 1) (set held n row)
-  held_more n held row l word h r =
-      record {
+  -- view n + 1 is put at the end
+  pub held_more : (n : ℕ) (held : List OpSet) (row : OpSet) (more : List OpSet) → n < 16 → row.0 < 2 ^ 64 → Held m t n held → Row (m.holds t (n + 1)) (numbers t) row
+      → more ≡ cond (nat_lt (length held) 16) (held ++ row ∷ []) held → Held m t (n + 1) more
+  held_more n held row more l word h r pushed =
+      let full : more ≡ held ++ row ∷ [] = pushed ∙ cond-true _ _ _ (lt-ltb (length held) 16 (omega (arith, h.long))) in
+      let next : n + 1 ≡ suc n = omega arith in
+      subst (Held m t (n + 1)) (sym full)
+      (record {
         rows = λ k below.
             ⊎_elim
-            (λ e. subst (λ i. Row (m.holds t (suc i)) (numbers t) (row_at (set held n row) i)) (sym e) (subst (Row (m.holds t (suc n)) (numbers t)) (sym (get_or-set_same held n row _ (omega (arith, h.long)))) r))
-            (λ ne. subst (Row (m.holds t (suc k)) (numbers t)) (sym (get_or-set_other held n k row _ ne)) (h.rows k (omega arith)))
+            (λ e. subst (λ i. Row (m.holds t (suc i)) (numbers t) (row_at (held ++ row ∷ []) i)) (sym e) (subst (Row (m.holds t (suc n)) (numbers t)) (sym (get_or_push held row _ n h.long)) (subst (λ i. Row (m.holds t i) (numbers t) row) next r)))
+            (λ ne. subst (Row (m.holds t (suc k)) (numbers t)) (sym (get_or_append_left held (row ∷ []) _ k (omega (arith, h.long)))) (h.rows k (omega arith)))
             (cases_eq k n);
-        long = length-set held n row ∙ h.long;
-        within = λ k. at_set (λ x. (i : ℕ) → has x i ≡ true → i < 64) held n row _ (omega (arith, h.long)) (λ i. has_below row i word) k (h.within k);
-        sized = λ k. at_set (λ x. size x ≤ 64) held n row _ (omega (arith, h.long)) (size_le row word) k (h.sized k);
-      }
+        long = omega (arith, length_push held row, h.long);
+        within = at_push (λ x. (i : ℕ) → has x i ≡ true → i < 64) held row _ (λ i. has_below row i word) h.within;
+        sized = at_push (λ x. size x ≤ 64) held row _ (size_le row word) h.sized;
+      })
 
 -- ---- the operations
 

@@ -1,32 +1,17 @@
 -- What the search finds, by its tables, is what the model asks for.
-use Rattle.std.proofs.Common.{◌≡◌, ℕ, ◌+◌, ◌⊎◌, List, [], ◌∷◌, map, take, drop, Some, None, sum, Option, sym, ap, ◌∙◌, subst, MatchOption}
-use Rattle.std.proofs.lemmas.List.{take-map, drop-map}
-use Rattle.std.proofs.lemmas.List.Sums.{sum_by-cons}
+use Rattle.std.proofs.Common.{◌≡◌, ℕ, ◌⊎◌, List, map, Some, None, Option, sym, ap, ◌∙◌, subst, MatchOption}
 use Rattle.trace.specs.Traces.{Trace}
-use Rattle.opset.specs.declared.OpSet.{OpSet}
-use Rattle.opset.specs.Sets.{size}
 use Rattle.ranks.specs.Numbers.{number_at, Numbers}
 use Rattle.models.specs.Meaning.{Meaning, Laws}
 use Rattle.orders.specs.Orders.{Legal, Precedes, First}
 use Rattle.search.specs.declared.tables.Tables.{Tables}
-use Rattle.search.specs.Parting.{parted}
 use Rattle.search.specs.Tables.{Tabled}
-use Rattle.search.specs.Steps.{cut, total, NoFill}
+use Rattle.search.specs.Steps.{NoFill}
 use Rattle.search.specs.declared.found.Orders.{Orders}
-use Rattle.search.specs.Found.{orders_of, FirstFound}
+use Rattle.search.specs.Found.{FirstFound}
 use Rattle.search.proofs.Numbering.{numbered}
 use Rattle.search.proofs.Explaining.{fills_meet, meet_fills}
 use Rattle.search.proofs.Comparing.{not_after}
-
--- ---- lists that lie one after another
-
-pub parted_cut : (f : ℕ → ℕ) (views : List OpSet) (xs : List ℕ) → parted (map size views) (map f xs) ≡ map (map f) (cut views xs)
-parted_cut f [] xs = λ i. []
-parted_cut f (v ∷ views) xs = (λ i. take-map f (size v) xs i ∷ parted (map size views) (drop-map f (size v) xs i)) ∙ ap (λ l. map f (take (size v) xs) ∷ l) (parted_cut f views (drop (size v) xs))
-
-pub sizes_total : (views : List OpSet) → sum (map size views) ≡ total views
-sizes_total [] = λ i. 0
-sizes_total (v ∷ views) = sum_by-cons (λ x. x) (size v) (map size views) ∙ ap (λ n. size v + n) (sizes_total views)
 
 -- ---- the answer
 
@@ -45,6 +30,6 @@ module _ (m : Meaning) (laws : Laws m) (t : Trace) (facts : Numbers t) (tables :
   none_found none legal = let w = meet_fills m laws t facts tables good legal.0 legal.1 in none w.lists w.fills
 
   -- what the tables tell is so of the model and the trace
-  pub found_or_none : (answer : Option Orders) → MatchOption answer (NoFill tables) (λ o. FirstFound tables (orders_of o)) → MatchOption answer (Legal m t → ⊥) (λ o. First m t (orders_of o))
+  pub found_or_none : (answer : Option Orders) → MatchOption answer (NoFill tables) (λ o. FirstFound tables o) → MatchOption answer (Legal m t → ⊥) (λ o. First m t o)
   found_or_none None none = none_found none
-  found_or_none (Some o) f = first_found (orders_of o) f
+  found_or_none (Some o) f = first_found o f

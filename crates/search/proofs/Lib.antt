@@ -9,5 +9,5 @@ pub mod Asking
 pub mod Numbering
 pub mod Explaining
 pub mod Comparing
+pub mod Cutting
 pub mod Finding
-pub mod Parts

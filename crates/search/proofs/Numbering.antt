@@ -60,10 +60,10 @@ module _ (t : Trace) (facts : Numbers t) where
 
 module _ (m : Meaning) (laws : Laws m) (t : Trace) (facts : Numbers t) (tables : Tables) (good : Tabled m t tables) where
   few : length (numbers t) ≤ 64
-  few = few_numbers tables.ranks t good.ranks
+  few = few_numbers t facts
 
   -- what a view holds
-  module _ (k : ℕ) (l : k < tables.views) where
+  module _ (k : ℕ) (l : k < length tables.held) where
     pub has_holds : (r : ℕ) → has (view_of tables k) r ≡ true → m.holds t (suc k) (number_at (numbers t) r)
     has_holds r h = (good.held k l r (tables.within k r h)).0 h
 
@@ -119,7 +119,7 @@ module _ (m : Meaning) (laws : Laws m) (t : Trace) (facts : Numbers t) (tables :
 
   -- ---- one place
 
-  module _ (lists : List (List ℕ)) (ranked : (a : ℕ) → Ranked t (get_or lists a [])) (k : ℕ) (l : k < tables.views) (kl : k ≤ length lists) (before : List ℕ) (j : ℕ) (front : Ranked t before) where
+  module _ (lists : List (List ℕ)) (ranked : (a : ℕ) → Ranked t (get_or lists a [])) (k : ℕ) (l : k < length tables.held) (kl : k ≤ length lists) (before : List ℕ) (j : ℕ) (front : Ranked t before) where
     -- the lists so far
     sofar : (a : ℕ) → a < k → get_or (take k lists) a [] ≡ get_or lists a []
     sofar a al = get_or-take k lists a [] al

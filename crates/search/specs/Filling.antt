@@ -1,7 +1,7 @@
 -- The parts of the search's tables: what each says of a model and a trace. Operations go by rank, and views from 0.
 use Rattle.std.specs.Prelude.{◌≡◌, ℕ, suc, ◌<◌, ◌≤◌, true, List, length, slice_index_or}
-use Rattle.trace.specs.declared.operation.Kind.TheVariants.{Read}
 use Rattle.trace.specs.declared.operation.Operation.{Operation}
+use Rattle.trace.specs.Operations.{unused}
 use Rattle.trace.specs.Traces.{Trace}
 use Rattle.opset.specs.declared.OpSet.{OpSet}
 use Rattle.opset.specs.Sets.{has, size}
@@ -9,18 +9,14 @@ use Rattle.ranks.specs.Numbers.{numbers, number_at}
 use Rattle.models.specs.Meaning.{Meaning, Is}
 use Rattle.models.specs.Rows.{Row, row_at}
 
--- what stands at a rank that no operation has
-abbrev pub unused : Operation
-unused = record { kind = Read; variable = 0; source = 0; value = 0 }
-
--- the operation of a rank
+-- the operation of a rank; an unused one where there is none
 abbrev pub operation_of : List Operation → ℕ → Operation
 operation_of operations r = slice_index_or operations r unused
 
--- the first n sets are what the first n views hold
+-- the sets are what the first n views hold
 pub record Held (m : Meaning) (t : Trace) (n : ℕ) (held : List OpSet) : Type 0 where
   pub rows : (k : ℕ) → k < n → Row (m.holds t (suc k)) (numbers t) (row_at held k)
-  pub long : length held ≡ 16
+  pub long : length held ≡ n
   pub within : (k i : ℕ) → has (row_at held k) i ≡ true → i < 64
   pub sized : (k : ℕ) → size (row_at held k) ≤ 64
 

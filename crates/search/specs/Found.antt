@@ -1,17 +1,11 @@
--- What the code's orders stand for, and the reading of one of their lists.
-use Rattle.std.specs.Prelude.{◌≡◌, ℕ, ◌<◌, ◌≤◌, List, ◌++◌, map, length, take, drop, Ok, Err, Result}
+-- What a search finds, and the reading of one of its lists.
+use Rattle.std.specs.Prelude.{◌≡◌, ℕ, ◌<◌, ◌≤◌, List, ◌++◌, map, length, drop, Ok, Err, Result}
 use Rattle.trace.specs.Operations.{Within}
 use Rattle.orders.specs.Orders.{view_at}
-use Rattle.search.specs.Parting.{parted}
 use Rattle.search.specs.Steps.{number_of, FirstFill}
 use Rattle.search.specs.declared.tables.Tables.{Tables}
-use Rattle.search.specs.declared.found.Orders.{Orders}
 use Rattle.search.specs.declared.found.NotShown.{NotShown}
 use Rattle.search.specs.declared.found.NotShown.TheVariants.{NoView, FewSlots}
-
--- the orders that are held
-abbrev pub orders_of : Orders → List (List ℕ)
-orders_of o = parted (take o.views o.counts) o.numbers
 
 -- the list is that of view k, and there is such a view
 pub record IsView (orders : List (List ℕ)) (k : ℕ) (list : List ℕ) : Type 0 where

@@ -2,5 +2,5 @@ pub mod Filling
 pub mod Tables
 pub mod Steps
 pub mod Views
-pub mod Parting
 pub mod Found
+pub mod Refusals

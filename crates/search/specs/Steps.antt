@@ -6,7 +6,6 @@ use Rattle.trace.specs.Operations.{is_read, is_write}
 use Rattle.opset.specs.declared.OpSet.{OpSet}
 use Rattle.opset.specs.Sets.{has, size}
 use Rattle.ranks.specs.Numbers.{number_at}
-use Rattle.ranks.specs.Listings.{listed}
 use Rattle.models.specs.Rows.{row_at}
 use Rattle.search.specs.declared.tables.Tables.{Tables}
 use Rattle.search.specs.Filling.{operation_of}
@@ -27,7 +26,7 @@ precedes (x ∷ xs) j i = (x == j && is_in i xs) || precedes xs j i
 
 -- the sets of all views
 abbrev pub views_of : Tables → List OpSet
-views_of tables = take tables.views tables.held
+views_of tables = tables.held
 
 -- the set of view k, and those of the views after it
 abbrev pub view_of : Tables → ℕ → OpSet
@@ -38,7 +37,7 @@ later_than tables k = drop (k + 1) (views_of tables)
 
 -- the number of the operation of a rank
 abbrev pub number_of : Tables → ℕ → ℕ
-number_of tables i = number_at (listed tables.ranks) i
+number_of tables i = number_at tables.ranks i
 
 -- the operation of rank i is a write to variable v
 unfoldable pub writes : Tables → ℕ → ℕ → Bool

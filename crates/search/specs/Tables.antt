@@ -2,7 +2,6 @@
 use Rattle.std.specs.Prelude.{◌≡◌, ℕ, suc, ◌<◌, length}
 use Rattle.trace.specs.Traces.{Trace, processor_count}
 use Rattle.ranks.specs.Numbers.{numbers, number_at}
-use Rattle.ranks.specs.Listings.{listed}
 use Rattle.models.specs.Meaning.{Meaning, Is}
 use Rattle.models.specs.Rows.{Row, Rows, row_at}
 use Rattle.search.specs.Filling.{operation_of}
@@ -10,9 +9,9 @@ use Rattle.search.specs.declared.tables.Tables.{Tables}
 
 -- the tables say what the model means on the trace
 pub record Tabled (m : Meaning) (t : Trace) (tables : Tables) : Type 0 where
-  pub ranks : listed tables.ranks ≡ numbers t
-  pub views : tables.views ≡ m.views (processor_count t) t.variables
-  pub held : (k : ℕ) → k < tables.views → Row (m.holds t (suc k)) (numbers t) (row_at tables.held k)
+  pub ranks : tables.ranks ≡ numbers t
+  pub views : length tables.held ≡ m.views (processor_count t) t.variables
+  pub held : (k : ℕ) → k < length tables.held → Row (m.holds t (suc k)) (numbers t) (row_at tables.held k)
   pub before : Rows (m.before t) (numbers t) tables.before
   pub alike : Rows (m.alike t) (numbers t) tables.alike
   pub operations : (r : ℕ) → r < length (numbers t) → Is t (number_at (numbers t) r) (operation_of tables.operations r)

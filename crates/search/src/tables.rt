@@ -4,6 +4,7 @@ ghost use Rattle.opset.specs.Sets.{has, size};
 ghost use Rattle.models.specs.Rows.{row_at};
 ghost use Rattle.search.specs.Filling.{operation_of};
 
+use fixed_list::FixedList;
 use opset::OpSet;
 use ranks::listing::Ranks;
 use trace::operation::Operation;
@@ -14,15 +15,13 @@ mod filling;
 #[derive(Clone, Copy)]
 pub struct Tables {
     pub(crate) ranks: Ranks,
-    // How many views there are, and what each holds, from view 1 on.
-    pub(crate) views: usize,
-    pub(crate) held: [OpSet; 16],
+    // What each view holds, from view 1 on.
+    pub(crate) held: FixedList<OpSet, 16>,
     // What is required before each operation, and alike to it.
     pub(crate) before: [OpSet; 64],
     pub(crate) alike: [OpSet; 64],
     pub(crate) operations: [Operation; 64],
-    ghost few: { views ≤ 16 },
-    ghost wide: { length held ≡ 16 },
+    ghost few: { length held ≤ 16 },
     ghost within: { (k i : ℕ) → has (row_at held k) i ≡ true → i < 64 },
     ghost sized: { (k : ℕ) → size (row_at held k) ≤ 64 },
     ghost small: { (r : ℕ) → (operation_of operations r).variable < 17 },

@@ -15,16 +15,19 @@ use trace_file::reader::read;
 // A search is repeated until this time is over.
 const NANOS: u64 = 200_000_000;
 
+// A letter stands before a file, and no byte of that past the 530th can matter.
+const ENOUGH: u64 = 531;
+
 // Prints the verdict, and the time of one search by tables that are filled already.
 fn measure<M: MemoryModel>(rt: &HostRuntime, model: &M, table: &Table) -> anyhow::Result<()> {
     let tables = Tables::of(model, table);
     let mut legal = false;
     let mut nanos = 0;
-    let mut rounds: u64 = 0;
+    let mut rounds = 0;
     let start = Instant::now(rt)?;
-    for _ in 0..1_000_000 {
+    for round in 1..=1_000_000u64 {
         legal = tables.first_orders().is_some();
-        rounds = rounds.saturating_add(1);
+        rounds = round;
         nanos = u64::try_from(start.elapsed(rt)?.as_nanos()).unwrap_or(u64::MAX);
         if nanos > NANOS {
             break;
@@ -37,9 +40,9 @@ fn measure<M: MemoryModel>(rt: &HostRuntime, model: &M, table: &Table) -> anyhow
 }
 
 fn main(rt: HostRuntime) -> anyhow::Result<()> {
-    let mut input = [0u8; 531];
-    let filled = rt.stdin().read(&mut input)?.min(531);
-    let [letter, file @ ..] = &input[..filled] else {
+    let mut input = Vec::new(rt.alloc());
+    rt.stdin().take(ENOUGH).read_to_end(&mut input)?;
+    let [letter, file @ ..] = input.as_slice() else {
         return Ok(());
     };
     let Ok(table) = read(file) else {

@@ -5,23 +5,39 @@ mod everywhere;
 mod traces;
 
 use crate::everywhere::Everywhere;
-use models::agreement::Agreement;
-use models::coherent::Coherent;
+use letters::{Letters, Visitor};
 use models::model::MemoryModel;
-use models::pram::Pram;
-use models::sequential::Sequential;
-use models::write_into::WriteInto;
 use search::first::first_orders;
+use std::fmt::Display;
 use std::io;
 use trace::table::Table;
 
+// The models that every trace is searched under: one order or one of each variable, and then one of each processor.
+const ALL: [Letters; 10] = [
+    Letters::S,
+    Letters::FS,
+    Letters::AS,
+    Letters::AFS,
+    Letters::C,
+    Letters::FC,
+    Letters::P,
+    Letters::FP,
+    Letters::AP,
+    Letters::AFP,
+];
+
 // Prints the list of each view, up to the first number that is no view's.
-fn show<M: MemoryModel>(rt: &HostRuntime, title: &str, model: &M, table: &Table) -> io::Result<()> {
+fn show<M: MemoryModel>(
+    rt: &HostRuntime,
+    title: impl Display + Drop,
+    model: &M,
+    table: &Table,
+) -> io::Result<()> {
     let Some(orders) = first_orders(model, table) else {
         return println!(rt; "  {title}: illegal");
     };
     println!(rt; "  {title}: legal")?;
-    for view in 1..17 {
+    for view in 1..=16 {
         let Some(list) = orders.list(view) else {
             return Ok(());
         };
@@ -34,56 +50,71 @@ fn show<M: MemoryModel>(rt: &HostRuntime, title: &str, model: &M, table: &Table)
     Ok(())
 }
 
-// Sequential consistency and coherence, with the layers that may stand over them.
-fn one_order(rt: &HostRuntime, table: &Table) -> io::Result<()> {
-    show(rt, "S", &Sequential, table)?;
-    show(rt, "FS", &WriteInto { below: Sequential }, table)?;
-    show(rt, "AS", &Agreement { below: Sequential }, table)?;
-    show(
-        rt,
-        "AFS",
-        &Agreement {
-            below: WriteInto { below: Sequential },
-        },
-        table,
-    )?;
-    show(rt, "C", &Coherent, table)?;
-    show(rt, "FC", &WriteInto { below: Coherent }, table)
+// Has the model of some letters show its first orders of a trace.
+#[derive(Clone, Copy)]
+struct Shown<'a> {
+    rt: &'a HostRuntime,
+    letters: Letters,
+    table: &'a Table,
 }
 
-fn each_processor(rt: &HostRuntime, table: &Table) -> io::Result<()> {
-    show(rt, "P", &Pram, table)?;
-    show(rt, "FP", &WriteInto { below: Pram }, table)?;
-    show(rt, "AP", &Agreement { below: Pram }, table)?;
-    show(
-        rt,
-        "AFP",
-        &Agreement {
-            below: WriteInto { below: Pram },
-        },
-        table,
-    )
+impl Visitor for Shown<'_> {
+    type Output = io::Result<()>;
+
+    ghost gives = { λ _ _ _. Unit {0} };
+
+    // Prints the first orders under the model.
+    fn visit<M: MemoryModel + Drop>(self, model: M) -> io::Result<()> {
+        show(self.rt, self.letters, &model, self.table)
+    }
 }
 
-fn all(rt: &HostRuntime, title: &str, table: &Table) -> io::Result<()> {
+// Prints the first orders of a trace under the models that some letters name.
+fn lettered(rt: &HostRuntime, title: &str, all: &[Letters], table: &Table) -> io::Result<()> {
     println!(rt; "{title}")?;
-    one_order(rt, table)?;
-    each_processor(rt, table)
+    for letters in all.iter().copied() {
+        letters.visit(Shown { rt, letters, table })?;
+    }
+    Ok(())
 }
 
 fn main(rt: HostRuntime) -> io::Result<()> {
-    all(&rt, "store buffering", &traces::store_buffering())?;
-    all(&rt, "opposite readers", &traces::opposite_readers())?;
-    all(&rt, "nothing recorded", &Table::new())?;
-    println!(rt; "the first candidate is wrong, found out at the last")?;
-    show(&rt, "S", &Sequential, &traces::last_first())?;
-    println!(rt; "the second view wants the first one changed")?;
-    show(&rt, "P", &Pram, &traces::overtaken())?;
-    show(&rt, "AP", &Agreement { below: Pram }, &traces::overtaken())?;
-    println!(rt; "a source that is not there")?;
-    show(&rt, "S", &Sequential, &traces::sourceless())?;
-    println!(rt; "64 writes")?;
-    show(&rt, "S", &Sequential, &traces::full())?;
-    show(&rt, "P", &Pram, &traces::full())?;
-    show(&rt, "16 views", &Everywhere, &traces::full())
+    lettered(
+        &rt,
+        "store buffering",
+        &ALL,
+        &worked_traces::store_buffering(),
+    )?;
+    lettered(
+        &rt,
+        "opposite readers",
+        &ALL,
+        &worked_traces::opposite_readers(),
+    )?;
+    lettered(&rt, "nothing recorded", &ALL, &Table::new())?;
+    lettered(
+        &rt,
+        "the first candidate is wrong, found out at the last",
+        &[Letters::S],
+        &traces::last_first(),
+    )?;
+    lettered(
+        &rt,
+        "the second view wants the first one changed",
+        &[Letters::P, Letters::AP],
+        &traces::overtaken(),
+    )?;
+    lettered(
+        &rt,
+        "a source that is not there",
+        &[Letters::S],
+        &traces::sourceless(),
+    )?;
+    lettered(
+        &rt,
+        "64 writes",
+        &[Letters::S, Letters::P],
+        &worked_traces::full(),
+    )?;
+    show(&rt, "16 views", &Everywhere, &worked_traces::full())
 }

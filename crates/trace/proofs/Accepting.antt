@@ -1,7 +1,7 @@
 -- What an answer says of its refusal, and what an accepted call answers and leaves.
-use Rattle.std.proofs.Common.{◌≡◌, ℕ, Bool, true, List, [], ◌∷◌, sym, refl, ap, ◌∙◌, ⊎_elim}
+use Rattle.std.proofs.Common.{◌≡◌, ℕ, Bool, true, false, cond, List, [], ◌∷◌, Result, Ok, Err, is_ok, sym, refl, ap, ◌∙◌, ⊎_elim}
 use Rattle.std.specs.List.{AllByRecursion}
-use Rattle.std.proofs.lemmas.Bool.{cases_eq, cases_Bool, eq-eqb, ne_eqb, cond-true, cond-false}
+use Rattle.std.proofs.lemmas.Bool.{false≢true, cases_eq, cases_Bool, eq-eqb, ne_eqb, cond-true, cond-false}
 use Rattle.trace.specs.Traces.{Trace}
 use Rattle.trace.specs.Calls.{first_failed, answer, after}
 
@@ -27,3 +27,13 @@ unfailed (c ∷ tests) ne e =
 pub none_failed : (tests : List (Bool × ℕ)) → AllByRecursion (λ (c : Bool × ℕ). c.0 ≡ true) tests → first_failed tests ≡ 0
 none_failed [] p = refl
 none_failed (c ∷ tests) p = cond-true c.0 _ _ p.0 ∙ none_failed tests p.1
+
+-- what is there under a condition
+
+abbrev pub value : {A E : Type 0} → A → Result A E → A
+value d (Ok x) = x
+value d (Err e) = d
+
+pub found : {A E : Type 0} (b : Bool) (x y : A) (e : E) → ◌≡◌ {A = Result A E} (Ok x) (cond b (Ok y) (Err e)) → (b ≡ true) × (x ≡ y)
+found true x y e h = (refl, ap (value x) h)
+found false x y e h = absurd (false≢true (sym (ap is_ok h)))

@@ -1,7 +1,7 @@
 -- The tests on fields say what they should, operation by operation and lane by lane.
-use Rattle.std.proofs.Common.{◌≡◌, ℕ, zero, suc, ◌<◌, Bool, true, List, [], ◌∷◌, ◌++◌, length, get_or, take, set, replicate, Decides, refl}
+use Rattle.std.proofs.Common.{◌≡◌, ℕ, zero, suc, ◌<◌, Bool, true, List, [], ◌∷◌, ◌++◌, length, get_or, set, replicate, Decides, refl}
 use Rattle.std.specs.List.{AllByRecursion}
-use Rattle.std.proofs.ByRecursion.{All-get_or, All-set, All-push, All-take, Decides-by_and}
+use Rattle.std.proofs.ByRecursion.{All-get_or, All-set, All-push, Decides-by_and}
 use Rattle.trace.specs.declared.operation.Operation.{Operation}
 use Rattle.trace.specs.Operations.{fitting}
 use Rattle.trace.specs.Traces.{lane_fits, lanes_fit}
@@ -18,9 +18,6 @@ module _ (p v : ℕ) where
 
   pub fits_push : (l : List Operation) (o : Operation) → lane_fits p v l ≡ true → fitting p v o ≡ true → lane_fits p v (l ++ o ∷ []) ≡ true
   fits_push l o e f = (lane_fits_all (l ++ o ∷ [])).1 (All-push (λ x. fitting p v x ≡ true) l o ((lane_fits_all l).0 e) f)
-
-  pub fits_take : (n : ℕ) (l : List Operation) → lane_fits p v l ≡ true → lane_fits p v (take n l) ≡ true
-  fits_take n l e = (lane_fits_all (take n l)).1 (All-take (λ x. fitting p v x ≡ true) n l ((lane_fits_all l).0 e))
 
   pub fits_set : (ls : List (List Operation)) (i : ℕ) (l : List Operation) → lanes_fit p v ls ≡ true → lane_fits p v l ≡ true → lanes_fit p v (set ls i l) ≡ true
   fits_set ls i l e f = (lanes_fit_all (set ls i l)).1 (All-set (λ x. lane_fits p v x ≡ true) ls i l f ((lanes_fit_all ls).0 e))

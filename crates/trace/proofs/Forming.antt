@@ -1,5 +1,5 @@
 -- Every table holds a well-formed trace: the tests that it keeps true are the relation.
-use Rattle.std.proofs.Common.{◌≡◌, ℕ, ◌/◌, ◌%◌, ◌^◌, true, false, eqb, leb, List, Decides, sym, refl, ap, ◌∙◌, subst, inl, inr, ⊎_elim, arith}
+use Rattle.std.proofs.Common.{◌≡◌, ℕ, ◌/◌, ◌%◌, ◌^◌, true, false, eqb, leb, List, Decides, refl, ap, ◌∙◌, inl, inr, ⊎_elim, arith}
 use Rattle.std.specs.List.{AllByRecursion}
 use Rattle.std.proofs.ByRecursion.{All-weaker}
 use Rattle.std.proofs.lemmas.Bool.{eqb-true, eq-eqb, ltb-true, lt-ltb, leb-true, le-leb, and_parts, and_from, or_cases, or_left, or_right, false≢true}
@@ -7,12 +7,9 @@ use Rattle.std.proofs.lemmas.Bool.Decides.{Decides-and}
 use Rattle.trace.specs.declared.operation.Kind.{Kind}
 use Rattle.trace.specs.declared.operation.Kind.TheVariants.{Read, Write}
 use Rattle.trace.specs.declared.operation.Operation.{Operation}
-use Rattle.trace.specs.declared.table.Table.{Table}
 use Rattle.trace.specs.Operations.{kind_number, number, capacity, Within, within, Nameable, is_position, source_fits, Fitting, fitting}
-use Rattle.trace.specs.Tables.{trace_of}
-use Rattle.trace.specs.Traces.{WellFormed, lane_fits, lanes_fit}
+use Rattle.trace.specs.Traces.{lane_fits, lanes_fit}
 use Rattle.trace.proofs.Fits.{lane_fits_all, lanes_fit_all}
-use Rattle.trace.proofs.Lanes.{processors_are}
 
 pub decides_within : (low high x : ℕ) → Decides (within low high x) (Within low high x)
 decides_within low high x = Decides-and (leb low x) (leb x high) (leb-true low x, le-leb low x) (leb-true x high, le-leb x high)
@@ -65,13 +62,3 @@ module _ (p v : ℕ) where
     λ e. All-weaker (λ l. lane_fits p v l ≡ true) (AllByRecursion (Fitting p v)) (λ l h. All-weaker (λ o. fitting p v o ≡ true) (Fitting p v) (λ o. (decides_fitting o).0) l ((lane_fits_all p v l).0 h)) ls ((lanes_fit_all p v ls).0 e),
     λ a. (lanes_fit_all p v ls).1 (All-weaker (AllByRecursion (Fitting p v)) (λ l. lane_fits p v l ≡ true) (λ l h. (lane_fits_all p v l).1 (All-weaker (Fitting p v) (λ o. fitting p v o ≡ true) (λ o. (decides_fitting o).1) l h)) ls a),
   )
-
-pub well_formed : (t : Table) → WellFormed (trace_of t)
-well_formed t =
-    let e = processors_are t in
-    record {
-      processors = subst (Within 1 8) (sym e) t.peopled;
-      variables = t.varied;
-      few = omega (arith, t.room, t.counted);
-      operations = subst (λ p. AllByRecursion (AllByRecursion (Fitting p t.variables)) (trace_of t).lanes) (sym e) ((decides_lanes t.processors t.variables (trace_of t).lanes).0 t.fit);
-    }

@@ -1,4 +1,5 @@
 pub mod Numbers
+pub mod Keeping
 pub mod Lanes
 pub mod Fits
 pub mod Accepting

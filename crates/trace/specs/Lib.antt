@@ -1,6 +1,6 @@
-pub mod Operations
-pub mod Traces
-pub mod Lanes
-pub mod Tables
 pub mod Calls
 pub mod Completeness
+pub mod Operations
+pub mod Refusals
+pub mod Tables
+pub mod Traces

@@ -14,6 +14,10 @@ kind_number Write = 2
 abbrev pub kind_of : ℕ → Option Kind
 kind_of n = cond (n == 1) (Some Read) (cond (n == 2) (Some Write) None)
 
+-- what stands in a place of a table that is not used: a read of no variable
+abbrev pub unused : Operation
+unused = record { kind = Read; variable = 0; source = 0; value = 0 }
+
 -- the operation is a read
 abbrev pub is_read : Operation → Bool
 is_read o = kind_number o.kind == 1

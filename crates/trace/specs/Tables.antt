@@ -1,8 +1,8 @@
--- What the code's table stands for: a trace.
-use Rattle.trace.specs.Traces.{Trace}
-use Rattle.trace.specs.Lanes.{trace_from}
-use Rattle.trace.specs.declared.table.Table.{Table}
+-- What a table keeps true of the trace that it holds.
+use Rattle.std.specs.Prelude.{◌≡◌, ℕ}
+use Rattle.trace.specs.Traces.{Trace, operation_count, WellFormed}
 
--- the trace that a table holds
-abbrev pub trace_of : Table → Trace
-trace_of t = trace_from t.processors t.variables t.lanes
+-- the trace is well-formed, and its operations are counted
+pub record Kept (total : ℕ) (t : Trace) : Type 0 where
+  pub formed : WellFormed t
+  pub counted : total ≡ operation_count t

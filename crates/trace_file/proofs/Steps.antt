@@ -1,5 +1,6 @@
 -- One turn of each of the reader's loops, over plain values.
-use Rattle.std.proofs.Common.{◌≡◌, ℕ, suc, ◌+◌, ◌-◌, ◌*◌, ◌<◌, ◌≤◌, true, ◌&&◌, List, [], ◌∷◌, length, get_or, drop, Ok, Err, Result, sym, refl, ap, ◌∙◌, ⊎_elim, arith}
+use Rattle.std.proofs.Common.{◌≡◌, ℕ, suc, ◌+◌, ◌-◌, ◌*◌, ◌<◌, ◌≤◌, true, ◌&&◌, List, [], ◌∷◌, length, get_or, drop, Ok, Err, Result, sym, refl, ap, ◌∙◌, subst, ⊎_elim, arith}
+use Rattle.std.specs.Borrow.{Bor}
 use Rattle.std.specs.List.{between}
 use Rattle.std.proofs.lemmas.List.{length-set, length-drop, drop-drop, nil_from_length, length-replicate}
 use Rattle.std.proofs.lemmas.Slice.{first_rest, between_to_end}
@@ -13,7 +14,7 @@ use Rattle.trace_file.specs.declared.faults.SectionFault.{SectionFault}
 use Rattle.trace_file.specs.declared.faults.SectionFault.TheVariants.{Record}
 use Rattle.trace_file.specs.Faults.{record_number, section_number, section_place}
 use Rattle.trace_file.specs.Reading.{going, stopped, good, faulty, record_fault, entered, read_records, read_section, read_sections, and_then, read_file}
-use Rattle.trace_file.specs.Outcomes.{placed, RecordEntered, SectionEntered}
+use Rattle.trace_file.specs.Outcomes.{placed, RecordEntered, RecordRead, SectionEntered, SectionRead}
 
 -- what `at` was given, by what it gave
 
@@ -46,6 +47,7 @@ no_zero Full e = omega (arith, e)
 
 -- the records of a section, before the turn at r of m
 pub record Recording (from : Trace) (s m : ℕ) (records : List ℕ) (t : Trace) (r : ℕ) (rest : List ℕ) : Type 0 where
+  pub turns : r ≤ m
   pub left : rest ≡ drop (8 * r) records
   pub within : 8 * r ≤ length records
   pub processors : processor_count t ≡ processor_count from
@@ -55,7 +57,7 @@ module _ (from : Trace) (s m : ℕ) (records : List ℕ) where
   pub record_starts : Recording from s m records from 0 records
   record_starts =
       let z : m - 0 ≡ m = omega arith in
-      record { left = refl; within = omega arith; processors = refl; read = ap (λ k. read_records from s 0 k records) z }
+      record { turns = omega arith; left = refl; within = omega arith; processors = refl; read = ap (λ k. read_records from s 0 k records) z }
 
   pub record_again : (t u : Trace) (r : ℕ) (rest next : List ℕ) → r < m → Recording from s m records t r rest → RecordEntered t s rest next u → Recording from s m records u (r + 1) next
   record_again t u r rest next h v e =
@@ -63,6 +65,7 @@ module _ (from : Trace) (s m : ℕ) (records : List ℕ) where
       let long = good_long t s rest e.fault in
       let same : 8 * r + 8 ≡ 8 * (r + 1) = omega arith in
       record {
+        turns = omega arith;
         left = e.left ∙ ap (drop 8) v.left ∙ drop-drop 8 (8 * r) records ∙ ap (λ k. drop k records) same;
         within = omega arith;
         processors = ap processor_count e.trace ∙ entered_processors t s rest ∙ v.processors;
@@ -71,6 +74,14 @@ module _ (from : Trace) (s m : ℕ) (records : List ℕ) where
             ∙ sym (ap (λ k. read_records t s r k rest) (one_less r m h) ∙ cond-true _ _ _ (eq-eqb _ 0 e.fault))
             ∙ v.read;
       }
+
+  -- the turn at k, counted from 1
+  pub record_next : (t u : Trace) (k : ℕ) (rest : List ℕ) (next : Bor (List ℕ)) (r : Result (Bor (List ℕ)) RecordFault) → 1 ≤ k → k ≤ m
+      → Recording from s m records t (k - 1) rest → Ok next ≡ placed k r → RecordRead t s rest r u → Recording from s m records u k next.now
+  record_next t u k rest next r low high v e is =
+      let before : k - 1 + 1 ≡ k = omega arith in
+      subst (λ j. Recording from s m records u j next.now) before
+      (record_again t u (k - 1) rest next.now (omega arith) v (subst (λ x. RecordRead t s rest x u) (placed_ok k r next e) is))
 
   pub record_stops : (t : Trace) (r : ℕ) (rest : List ℕ) (f : RecordFault) → r < m → Recording from s m records t r rest → record_fault t s rest ≡ record_number f → read_records from s 0 m records ≡ stopped (record_number f) (number s (r + 1))
   record_stops t r rest f h v e =
@@ -107,6 +118,7 @@ section_stops from t s bytes rest r y f g h lt v e is at =
 
 -- the sections of a file, before the turn at s of them
 pub record Sectioning (bytes : List ℕ) (count : ℕ) (t : Trace) (s start : ℕ) : Type 0 where
+  pub turns : s ≤ count
   pub within : start ≤ length bytes
   pub processors : processor_count t ≡ count
   pub read : read_sections t s (count - s) (drop start bytes) ≡ read_file bytes
@@ -125,13 +137,22 @@ module _ (bytes : List ℕ) (count : ℕ) (t : Trace) (s start : ℕ) (v : Secti
   pub section_again : (n : ℕ) (u : Trace) → s < count → SectionEntered t (s + 1) (drop start bytes) n u → Sectioning bytes count u (s + 1) (start + n)
   section_again n u h e =
       record {
+        turns = omega arith;
         within = omega (arith, e.within, length-drop start bytes, v.within);
         processors = e.processors ∙ v.processors;
         read = sym (next h ∙ ap (λ p. and_then p (λ w rest. read_sections w (s + 1) (count - (s + 1)) rest)) e.read ∙ ap (read_sections u (s + 1) (count - (s + 1))) (drop-drop n start bytes));
       }
 
-  pub section_faulty : (f : SectionFault) → s < count → read_section t (s + 1) (drop start bytes) ≡ stopped (section_number f) (number (s + 1) (section_place f)) → read_file bytes ≡ faulty (section_number f) (number (s + 1) (section_place f))
-  section_faulty f h e = next h ∙ ap (λ p. and_then p (λ w rest. read_sections w (s + 1) (count - (s + 1)) rest)) e
+  pub section_next : (k n : ℕ) (u : Trace) (r : Result ℕ SectionFault) → k ≡ s + 1 → k ≤ count → Ok n ≡ placed k r → SectionRead t k (drop start bytes) r u → Sectioning bytes count u k (start + n)
+  section_next k n u r e high is read =
+      let h = subst (λ x. SectionRead t k (drop start bytes) x u) (placed_ok k r n is) read in
+      subst (λ j. Sectioning bytes count u j (start + n)) (sym e) (section_again n u (omega (arith, e, high)) (subst (λ j. SectionEntered t j (drop start bytes) n u) e h))
+
+  pub section_faulty : (k : ℕ) (f : SectionFault) → s + 1 ≡ k → k ≤ count → read_section t k (drop start bytes) ≡ stopped (section_number f) (number k (section_place f)) → read_file bytes ≡ faulty (section_number f) (number k (section_place f))
+  section_faulty k f e h is =
+      next (omega (arith, e, h))
+      ∙ ap (λ j. and_then (read_section t j (drop start bytes)) (λ w rest. read_sections w (s + 1) (count - (s + 1)) rest)) e
+      ∙ ap (λ p. and_then p (λ w rest. read_sections w (s + 1) (count - (s + 1)) rest)) is
 
   pub file_over : s ≡ count → start < length bytes → read_file bytes ≡ faulty 16 0
   file_over e h = sym v.read ∙ left_over_faulty t s (count - s) (drop start bytes) (omega arith) (omega (arith, length-drop start bytes))
@@ -146,6 +167,7 @@ file_starts bytes p v t h e f w is =
     let z : p - 0 ≡ p = omega arith in
     let q : (within 1 8 (get_or bytes 0 0) && within 1 16 (get_or bytes 1 0)) ≡ true = (λ i. within 1 8 (sym e i) && within 1 16 (sym f i)) ∙ w in
     record {
+      turns = omega arith;
       within = h;
       processors = ap processor_count is ∙ length-replicate p [];
       read =

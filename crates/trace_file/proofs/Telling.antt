@@ -2,7 +2,6 @@
 use Rattle.std.proofs.Common.{◌≡◌, ℕ, List, Ok, Err, Result, sym, refl, ap, ◌∙◌, subst, arith}
 use Rattle.std.proofs.lemmas.Bool.{false≢true}
 use Rattle.trace.specs.declared.table.Table.{Table}
-use Rattle.trace.specs.Tables.{trace_of}
 use Rattle.trace.specs.Traces.{Trace}
 use Rattle.trace_file.specs.declared.faults.FileFault.{FileFault}
 use Rattle.trace_file.specs.Faults.{file_number, file_place}
@@ -23,7 +22,7 @@ no_file bytes n place e (t, w, f) = never_both t n place (sym (read_back t w) �
 pub file_read : (bytes : List ℕ) (r : Result Table FileFault) → Bytes bytes → reading_of r ≡ read_file bytes → FileRead bytes r
 file_read bytes (Ok t) small e =
     let s = subst (Says bytes) (sym e) (says bytes small) in
-    record { answer = e; exactly = (λ _. (trace_of t, s.0, s.1), λ _. refl); same = s.1; fault = tt; enough = enough bytes }
+    record { answer = e; exactly = (λ _. (t, s.0, s.1), λ _. refl); same = s.1; fault = tt; enough = enough bytes }
 file_read bytes (Err f) small e =
     record {
       answer = e;

@@ -2,7 +2,6 @@
 use Rattle.std.specs.Prelude.{◌≡◌, ℕ, ◌<◌, ◌≤◌, List, length, take, drop, is_ok, IfOk, IfErr, Ok, Err, Decides, Result, slice_index}
 use Rattle.std.specs.Borrow.{Bor}
 use Rattle.trace.specs.declared.table.Table.{Table}
-use Rattle.trace.specs.Tables.{trace_of}
 use Rattle.trace.specs.Operations.{number}
 use Rattle.trace.specs.Traces.{Trace, processor_count}
 use Rattle.trace_file.specs.declared.faults.At.{At}
@@ -56,7 +55,7 @@ SizeRead bytes (Err f) = SizeMissing bytes f
 
 -- what the reader of a whole file answers
 abbrev pub reading_of : Result Table FileFault → Reading
-reading_of (Ok t) = good (trace_of t)
+reading_of (Ok t) = good t
 reading_of (Err f) = faulty (file_number f) (file_place f)
 
 -- what the reader of a whole file promises
@@ -66,7 +65,7 @@ pub record FileRead (bytes : List ℕ) (r : Result Table FileFault) : Type 0 whe
   -- a table comes exactly when the bytes are the file of a well-formed trace
   pub exactly : Decides (is_ok r) (IsFile bytes)
   -- the file of the table's trace is these bytes again
-  pub same : IfOk r (λ t. file_of (trace_of t) ≡ bytes)
+  pub same : IfOk r (λ t. file_of t ≡ bytes)
   -- a fault is the first
   pub fault : IfErr r (λ f. FirstFault bytes (file_number f) (file_place f))
   -- no byte past the 530th matters

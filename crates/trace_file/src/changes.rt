@@ -1,6 +1,5 @@
 //! The calls that may change a table, as values, and the table that a list of them makes.
 ghost use Rattle.std.specs.Prelude.{◌≡◌};
-ghost use Rattle.trace.specs.Tables.{trace_of};
 ghost use Rattle.trace_file.specs.Made.{change_answer, changed, made};
 
 use crate::reader::load;
@@ -34,8 +33,8 @@ pub enum Change {
 
 /// Makes one call on a table, and gives its answer.
 pub fn apply(table: &mut Table, change: &Change) -> (u8, u16)
-    ensures answer { result ≡ change_answer (trace_of table.old) change.now }
-    ensures after { trace_of table.new ≡ changed (trace_of table.old) change.now }
+    ensures answer { result ≡ change_answer table.old change.now }
+    ensures after { table.new ≡ changed table.old change.now }
 {
     match change {
         Change::Size {
@@ -56,7 +55,7 @@ pub fn apply(table: &mut Table, change: &Change) -> (u8, u16)
 
 /// Makes a list of calls on a fresh table, and gives the table.
 pub fn play(changes: &[Change]) -> Table
-    ensures { trace_of result ≡ made changes.now }
+    ensures { result ≡ made changes.now }
 {
     let mut table = Table::new();
     for change in changes {

@@ -7,11 +7,11 @@ ghost use Rattle.trace_file.specs.declared.faults.FileFault.TheVariants.{Section
 /// What is wrong with one record.
 #[derive(Clone, Copy, PartialEq, Eq, Debug)]
 pub enum RecordFault {
-    Short,
-    Kind,
-    Variable,
-    Source,
-    Full,
+    Kind = 2,
+    Variable = 3,
+    Source = 4,
+    Full = 5,
+    Short = 15,
 }
 
 /// A fault of one part of a layer, with the part's position there, counted from 1.
@@ -58,13 +58,7 @@ impl RecordFault {
     pub fn number(&self) -> u8
         ensures { result ≡ record_number self.now }
     {
-        match self {
-            RecordFault::Short => 15,
-            RecordFault::Kind => 2,
-            RecordFault::Variable => 3,
-            RecordFault::Source => 4,
-            RecordFault::Full => 5,
-        }
+        *self as u8
     }
 }
 

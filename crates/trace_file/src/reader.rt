@@ -1,7 +1,6 @@
 //! The reader: from bytes to a table, up to the first fault.
 ghost use Rattle.std.specs.Prelude.{◌≡◌, ◌+◌, ◌*◌, ◌<◌};
 ghost use Rattle.trace.specs.Operations.{Within};
-ghost use Rattle.trace.specs.Tables.{trace_of};
 ghost use Rattle.trace.specs.Traces.{processor_count};
 ghost use Rattle.trace_file.specs.Outcomes.{RecordRead, SectionRead, SizeRead, FileRead, placed};
 ghost use Rattle.trace_file.specs.Reading.{read_file, load_answer, load_after};
@@ -13,16 +12,13 @@ use trace::table::Table;
 fn at<T, F>(position: u8, res: Result<T, F>) -> Result<T, At<F>>
     ensures { result ≡ placed position res }
 {
-    match res {
-        Ok(value) => Ok(value),
-        Err(fault) => Err(At { position, fault }),
-    }
+    res.map_err(|fault| At { position, fault })
 }
 
 // Enters the record at the front of the bytes, and gives the bytes that follow it.
 fn read_record<'a>(bytes: &'a [u8], section: u8, table: &mut Table) -> Result<&'a [u8], RecordFault>
-    requires { Within 1 (processor_count (trace_of table.old)) section }
-    ensures { RecordRead (trace_of table.old) section bytes.now result (trace_of table.new) }
+    requires { Within 1 (processor_count table.old) section }
+    ensures { RecordRead table.old section bytes.now result table.new }
 {
     let [
         kind,
@@ -51,15 +47,15 @@ fn read_record<'a>(bytes: &'a [u8], section: u8, table: &mut Table) -> Result<&'
 
 // Enters the section at the front of the bytes, and gives the number of its bytes.
 fn read_section(bytes: &[u8], section: u8, table: &mut Table) -> Result<usize, SectionFault>
-    requires { Within 1 (processor_count (trace_of table.old)) section }
-    ensures { SectionRead (trace_of table.old) section bytes.now result (trace_of table.new) }
+    requires { Within 1 (processor_count table.old) section }
+    ensures { SectionRead table.old section bytes.now result table.new }
 {
     let [count, records @ ..] = bytes else {
         return Err(SectionFault::NoCount);
     };
     let mut rest = records;
-    for before in 0..*count {
-        rest = at(before + 1, read_record(rest, section, table))?;
+    for position in 1..=*count {
+        rest = at(position, read_record(rest, section, table))?;
     }
     Ok(1 + 8 * *count as usize)
 }
@@ -68,10 +64,10 @@ fn read_section(bytes: &[u8], section: u8, table: &mut Table) -> Result<usize, S
 fn read_size(bytes: &[u8]) -> Result<(u8, u8), FileFault>
     ensures { SizeRead bytes.now result }
 {
-    if bytes.len() < 2 {
-        return Err(FileFault::Short);
+    match bytes {
+        [processors, variables, ..] => Ok((*processors, *variables)),
+        _ => Err(FileFault::Short),
     }
-    Ok((bytes[0], bytes[1]))
 }
 
 /// Reads a file: the table of its trace, or its first fault.
@@ -80,13 +76,11 @@ pub fn read(bytes: &[u8]) -> Result<Table, FileFault>
 {
     let (processors, variables) = read_size(bytes)?;
     let mut table = Table::new();
-    match table.size(processors, variables) {
-        (0, _) => {}
-        _ => return Err(FileFault::Size),
-    }
+    let (0, _) = table.size(processors, variables) else {
+        return Err(FileFault::Size);
+    };
     let mut start = 2;
-    for before in 0..processors {
-        let section = before + 1;
+    for section in 1..=processors {
         start += at(section, read_section(&bytes[start..], section, &mut table))?;
     }
     if start < bytes.len() {
@@ -98,7 +92,7 @@ pub fn read(bytes: &[u8]) -> Result<Table, FileFault>
 /// Replaces a table by a file's, and answers how many operations that has; a faulty file leaves the table as it is.
 pub fn load(table: &mut Table, bytes: &[u8]) -> (u8, u16)
     ensures answer { result ≡ load_answer (read_file bytes.now) }
-    ensures after { trace_of table.new ≡ load_after (trace_of table.old) (read_file bytes.now) }
+    ensures after { table.new ≡ load_after table.old (read_file bytes.now) }
 {
     match read(bytes) {
         Ok(loaded) => {

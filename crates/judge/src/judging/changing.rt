@@ -1,21 +1,22 @@
 //! The calls that change a judge's trace; each that is accepted ends a standing verdict.
 ghost use Rattle.std.specs.Prelude.{◌≡◌};
+ghost use Rattle.std.specs.Fn.{FnOnceReturnsAtMut};
 ghost use Rattle.trace.specs.Calls.{size_answer, size_after, record_answer, record_after, strike_answer, strike_after};
 ghost use Rattle.trace_file.specs.Reading.{read_file, load_answer, load_after};
 ghost use Rattle.trace_file.specs.Made.{change_answer, changed};
-ghost use Rattle.judge.specs.States.{state_of, fresh, replaced};
+ghost use Rattle.judge.specs.Seen.{moved};
+ghost use Rattle.judge.specs.States.{fresh, replaced};
 
 use crate::judging::Judge;
 use models::model::MemoryModel;
 use trace::table::Table;
-use trace_file::changes::Change;
+use trace_file::changes::{Change, apply};
 use trace_file::reader::load;
 
 impl<M: MemoryModel> Judge<M> {
     /// Makes a judge of one processor, one variable and no operations, on which no verdict stands.
     pub fn new(model: M) -> Judge<M>
-        ensures state { state_of result ≡ fresh }
-        ensures model { result.model ≡ model }
+        ensures { result ≡ record { model = model; state = fresh } }
     {
         Judge {
             model,
@@ -24,25 +25,25 @@ impl<M: MemoryModel> Judge<M> {
         }
     }
 
-    // Ends a standing verdict where a change was accepted.
-    fn settle(&mut self, refusal: u8)
-        ensures after { state_of self.new ≡ replaced (state_of self.old) refusal (state_of self.old).trace }
-        ensures model { self.new.model ≡ self.old.model }
+    // Makes a call on the table, and ends a standing verdict where it is accepted.
+    fn alter<F: FnOnce(&mut Table) -> (u8, u16)>(&mut self, call: F) -> (u8, u16)
+        requires { F.IsAlwaysCallable call }
+        ensures called { FnOnceReturnsAtMut F.FnOnce call self.old.state.trace result self.new.state.trace }
+        ensures after { self.new ≡ moved self.old (replaced self.old.state result.0 self.new.state.trace) }
     {
-        if refusal == 0 {
+        let answer = call(&mut self.table);
+        if let (0, _) = answer {
             self.first = None;
         }
+        answer
     }
 
     /// Sets the numbers of processors and of variables.
     pub fn size(&mut self, processors: u8, variables: u8) -> (u8, u16)
-        ensures answer { result ≡ size_answer (state_of self.old).trace processors variables }
-        ensures after { state_of self.new ≡ replaced (state_of self.old) result.0 (size_after (state_of self.old).trace processors variables) }
-        ensures model { self.new.model ≡ self.old.model }
+        ensures answer { result ≡ size_answer self.old.state.trace processors variables }
+        ensures after { self.new ≡ moved self.old (replaced self.old.state result.0 (size_after self.old.state.trace processors variables)) }
     {
-        let (refusal, value) = self.table.size(processors, variables);
-        self.settle(refusal);
-        (refusal, value)
+        self.alter(|table| table.size(processors, variables))
     }
 
     /// Adds an operation at the end of a processor, and answers its number.
@@ -54,57 +55,33 @@ impl<M: MemoryModel> Judge<M> {
         source: u16,
         value: u32,
     ) -> (u8, u16)
-        ensures answer { result ≡ record_answer (state_of self.old).trace processor kind variable source }
-        ensures after { state_of self.new ≡ replaced (state_of self.old) result.0 (record_after (state_of self.old).trace processor kind variable source value) }
-        ensures model { self.new.model ≡ self.old.model }
+        ensures answer { result ≡ record_answer self.old.state.trace processor kind variable source }
+        ensures after { self.new ≡ moved self.old (replaced self.old.state result.0 (record_after self.old.state.trace processor kind variable source value)) }
     {
-        let (refusal, number) = self.table.record(processor, kind, variable, source, value);
-        self.settle(refusal);
-        (refusal, number)
+        self.alter(|table| table.record(processor, kind, variable, source, value))
     }
 
     /// Removes the last operation of a processor, and answers its number.
     pub fn strike(&mut self, processor: u8) -> (u8, u16)
-        ensures answer { result ≡ strike_answer (state_of self.old).trace processor }
-        ensures after { state_of self.new ≡ replaced (state_of self.old) result.0 (strike_after (state_of self.old).trace processor) }
-        ensures model { self.new.model ≡ self.old.model }
+        ensures answer { result ≡ strike_answer self.old.state.trace processor }
+        ensures after { self.new ≡ moved self.old (replaced self.old.state result.0 (strike_after self.old.state.trace processor)) }
     {
-        let (refusal, number) = self.table.strike(processor);
-        self.settle(refusal);
-        (refusal, number)
+        self.alter(|table| table.strike(processor))
     }
 
     /// Replaces the trace by a file's, and answers how many operations it has.
     pub fn load(&mut self, bytes: &[u8]) -> (u8, u16)
         ensures answer { result ≡ load_answer (read_file bytes.now) }
-        ensures after { state_of self.new ≡ replaced (state_of self.old) result.0 (load_after (state_of self.old).trace (read_file bytes.now)) }
-        ensures model { self.new.model ≡ self.old.model }
+        ensures after { self.new ≡ moved self.old (replaced self.old.state result.0 (load_after self.old.state.trace (read_file bytes.now))) }
     {
-        let (refusal, value) = load(&mut self.table, bytes);
-        self.settle(refusal);
-        (refusal, value)
+        self.alter(|table| load(table, bytes))
     }
 
     // Makes a change that is given as a value.
     pub(crate) fn change(&mut self, change: &Change) -> (u8, u16)
-        ensures answer { result ≡ change_answer (state_of self.old).trace change.now }
-        ensures after { state_of self.new ≡ replaced (state_of self.old) result.0 (changed (state_of self.old).trace change.now) }
-        ensures model { self.new.model ≡ self.old.model }
+        ensures answer { result ≡ change_answer self.old.state.trace change.now }
+        ensures after { self.new ≡ moved self.old (replaced self.old.state result.0 (changed self.old.state.trace change.now)) }
     {
-        match change {
-            Change::Size {
-                processors,
-                variables,
-            } => self.size(*processors, *variables),
-            Change::Record {
-                processor,
-                kind,
-                variable,
-                source,
-                value,
-            } => { self.record(*processor, *kind, *variable, *source, *value) }
-            Change::Strike { processor } => self.strike(*processor),
-            Change::Load { bytes } => self.load(bytes.as_slice()),
-        }
+        self.alter(|table| apply(table, change))
     }
 }

@@ -1,6 +1,7 @@
 //! Playing a call that is given as a value.
 ghost use Rattle.std.specs.Prelude.{◌≡◌};
-ghost use Rattle.judge.specs.States.{state_of, Plays};
+ghost use Rattle.judge.specs.Seen.{moved};
+ghost use Rattle.judge.specs.States.{Plays};
 
 use crate::calls::{Call, Played};
 use crate::judging::Judge;
@@ -9,8 +10,8 @@ use models::model::MemoryModel;
 impl<M: MemoryModel> Judge<M> {
     /// Plays a call, and gives its answer with all that the call handed in as it was left.
     pub fn play(&mut self, mut call: Call) -> Played
-        ensures played { Plays (M.MemoryModel.meaning self.old.model) (state_of self.old) call result (state_of self.new) }
-        ensures model { self.new.model ≡ self.old.model }
+        ensures played { Plays (M.MemoryModel.meaning self.old.model) self.old.state call result self.new.state }
+        ensures model { self.new ≡ moved self.old self.new.state }
     {
         let (refusal, value) = match &mut call {
             Call::Change(change) => self.change(change),

@@ -2,30 +2,20 @@
 ghost use Rattle.std.specs.Prelude.{◌≡◌, ℕ, length};
 ghost use Rattle.orders.specs.Inspecting.{Inspected};
 ghost use Rattle.trace_file.specs.Writing.{save_answer, save_after};
-ghost use Rattle.judge.specs.States.{state_of, Judging, not_shown_number, Showing};
+ghost use Rattle.judge.specs.Seen.{moved};
+ghost use Rattle.judge.specs.States.{Judging, Showing};
 
 use crate::judging::Judge;
 use models::model::MemoryModel;
 use orders::inspection::inspect;
 use search::first::first_orders;
-use search::found::NotShown;
 use trace_file::writer::save;
-
-// The refusal of a list that is not shown.
-fn refusal_of(why: NotShown) -> u8
-    ensures { result ≡ not_shown_number why }
-{
-    match why {
-        NotShown::NoView => 13,
-        NotShown::FewSlots => 14,
-    }
-}
 
 impl<M: MemoryModel> Judge<M> {
     /// Judges the trace: 1 where it is legal, and then that verdict stands; 0 where it is illegal.
     pub fn judge(&mut self) -> (u8, u16)
-        ensures verdict { Judging (M.MemoryModel.meaning self.old.model) (state_of self.old) result (state_of self.new) }
-        ensures model { self.new.model ≡ self.old.model }
+        ensures verdict { Judging (M.MemoryModel.meaning self.old.model) self.old.state result self.new.state }
+        ensures model { self.new ≡ moved self.old self.new.state }
     {
         let (refusal, place) = self.table.completeness();
         if refusal != 0 {
@@ -40,29 +30,29 @@ impl<M: MemoryModel> Judge<M> {
 
     /// Copies the list of a view, counted from 1, into the first of the slots, and answers how many numbers it has.
     pub fn view(&self, view: u8, slots: &mut [u16]) -> (u8, u16)
-        ensures { Showing (state_of self.now).standing view slots.old result slots.new }
+        ensures { Showing self.now.state.standing view slots.old result slots.new }
     {
         let Some(orders) = &self.first else {
             return (12, 0);
         };
         match orders.show(view, slots) {
             Ok(count) => (0, count as u16),
-            Err(why) => (refusal_of(why), 0),
+            Err(why) => (u8::from(why), 0),
         }
     }
 
     /// Inspects orders in writing, and answers what is found.
     pub fn inspect(&self, numbers: &[u16]) -> (u8, u16)
-        ensures answer { Inspected (M.MemoryModel.meaning self.now.model) (state_of self.now).trace numbers.now result }
-        ensures one { (other : ℕ × ℕ) → Inspected (M.MemoryModel.meaning self.now.model) (state_of self.now).trace numbers.now other → other ≡ result }
+        ensures answer { Inspected (M.MemoryModel.meaning self.now.model) self.now.state.trace numbers.now result }
+        ensures one { (other : ℕ × ℕ) → Inspected (M.MemoryModel.meaning self.now.model) self.now.state.trace numbers.now other → other ≡ result }
     {
         inspect(&self.model, &self.table, numbers)
     }
 
     /// Writes the trace's file into the first of the bytes, and answers its length.
     pub fn save(&self, bytes: &mut [u8]) -> (u8, u16)
-        ensures answer { result ≡ save_answer (state_of self.now).trace (length bytes.old) }
-        ensures after { bytes.new ≡ save_after (state_of self.now).trace bytes.old }
+        ensures answer { result ≡ save_answer self.now.state.trace (length bytes.old) }
+        ensures after { bytes.new ≡ save_after self.now.state.trace bytes.old }
     {
         save(&self.table, bytes)
     }

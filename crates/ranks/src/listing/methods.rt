@@ -1,58 +1,57 @@
 //! Making the list of a trace, and looking things up in it.
-ghost use Rattle.std.specs.Prelude.{◌≡◌, ◌<◌, ◌≤◌, length, MatchOption};
-ghost use Rattle.trace.specs.Tables.{trace_of};
+ghost use Rattle.std.specs.Prelude.{◌≡◌, ◌≤◌, length, MatchOption};
 ghost use Rattle.ranks.specs.Numbers.{numbers, number_at, Numbers, RankOf, Unlisted};
-ghost use Rattle.ranks.specs.Listings.{listed};
 
 use crate::listing::Ranks;
+use fixed_list::FixedList;
 use trace::table::Table;
 
 impl Ranks {
     /// Lists the operations of a trace.
     pub fn of(table: &Table) -> Ranks
-        ensures value { listed result ≡ numbers (trace_of table.now) }
-        ensures facts { Numbers (trace_of table.now) }
+        ensures value { result ≡ numbers table.now }
+        ensures facts { Numbers table.now }
     {
         let end = 101 + 100 * u16::from(table.processors());
-        let mut count = 0;
-        let mut numbers = [0u16; 64];
+        let mut numbers = FixedList::new();
         for number in 101..end {
             if table.operation(number).is_some() {
-                numbers[count] = number;
-                count += 1;
+                let _ = numbers.push(number);
             }
         }
-        Ranks { count, numbers }
+        Ranks { numbers }
+    }
+
+    /// Gives the numbers, rising.
+    pub fn as_slice(&self) -> &[u16]
+        ensures value { result.now ≡ self.now }
+        ensures bound { length result.now ≤ 64 }
+    {
+        self.numbers.as_slice()
     }
 
     /// Gives the number of operations.
     pub fn len(&self) -> usize
-        ensures value { result ≡ length (listed self.now) }
+        ensures value { result ≡ length self.now }
         ensures bound { result ≤ 64 }
     {
-        self.count
+        self.numbers.len()
     }
 
     /// Gives the number of the operation of a rank; 0 where there is none.
     pub fn number(&self, rank: usize) -> u16
-        ensures { result ≡ number_at (listed self.now) rank }
+        ensures { result ≡ number_at self.now rank }
     {
-        if rank < self.count {
-            self.numbers[rank]
-        } else {
-            0
-        }
+        self.as_slice().get(rank).copied().unwrap_or(0)
     }
 
     /// Gives the rank of the operation of a number, where that is listed.
     pub fn rank(&self, number: u16) -> Option<u8>
-        ensures { MatchOption result (Unlisted (listed self.now) number) (RankOf (listed self.now) number) }
+        ensures { MatchOption result (Unlisted self.now number) (RankOf self.now number) }
     {
-        for rank in 0..self.count {
-            if self.numbers[rank] == number {
-                return Some(rank as u8);
-            }
+        match self.numbers.as_slice().binary_search(&number) {
+            Ok(rank) => Some(rank as u8),
+            Err(_) => None,
         }
-        None
     }
 }

@@ -1,19 +1,29 @@
 //! The calls that make a trace.
-ghost use Rattle.std.specs.Prelude.{◌≡◌, ◌+◌, ◌<◌, ◌≤◌, true, length, MatchBool};
-ghost use Rattle.trace.specs.Operations.{Within, within, kind_number, is_position, source_fits, fitting};
-ghost use Rattle.trace.specs.Lanes.{lane_of};
-ghost use Rattle.trace.specs.Tables.{trace_of};
-ghost use Rattle.trace.specs.Traces.{processor_count, lane_at, lane_fits, empty_trace};
-ghost use Rattle.trace.specs.Calls.{size_answer, size_after, record_answer, record_after, strike_answer, strike_after, with_lane, appended};
+ghost use Rattle.std.specs.Prelude.{◌≡◌, ◌≤◌, cond, Ok, Err};
+ghost use Rattle.trace.specs.Operations.{Within, within, number, kind_number, is_position, source_fits};
+ghost use Rattle.trace.specs.Refusals.{answered};
+ghost use Rattle.trace.specs.Tables.{Kept};
+ghost use Rattle.trace.specs.Traces.{processor_count, lane_at, empty_trace};
+ghost use Rattle.trace.specs.Calls.{size_answer, size_after, record_answer, record_after, strike_answer, strike_after, with_lane};
+ghost use Rattle.trace.specs.declared.refusal.Refusal.TheVariants as refused;
 
-use crate::lane::Lane;
 use crate::operation::{Kind, Operation};
-use crate::table::Table;
+use crate::refusal::{Refusal, answer};
+use crate::table::{Lane, Table};
+use fixed_list::FixedList;
+
+// The number of the operation at a position of a processor.
+fn number_of(processor: u8, position: usize) -> u16
+    requires { position ≤ 65 }
+    ensures { result ≡ number processor position }
+{
+    100 * u16::from(processor) + position as u16
+}
 
 impl Table {
     /// Makes a fresh table: one processor, one variable and no operations.
     pub fn new() -> Table
-        ensures { trace_of result ≡ empty_trace 1 1 }
+        ensures { result ≡ empty_trace 1 1 }
     {
         Table::empty(1, 1)
     }
@@ -21,49 +31,53 @@ impl Table {
     fn empty(processors: u8, variables: u8) -> Table
         requires processors { Within 1 8 processors }
         requires variables { Within 1 16 variables }
-        ensures { trace_of result ≡ empty_trace processors variables }
+        ensures { result ≡ empty_trace processors variables }
     {
         Table {
-            processors,
             variables,
             total: 0,
-            lanes: [Lane::empty(); 8],
+            lanes: FixedList::repeat(FixedList::new(), usize::from(processors)),
         }
     }
 
     /// Sets the number of processors and of variables, while nothing is recorded.
     pub fn size(&mut self, processors: u8, variables: u8) -> (u8, u16)
-        ensures answer { result ≡ size_answer (trace_of self.old) processors variables }
-        ensures after { trace_of self.new ≡ size_after (trace_of self.old) processors variables }
+        ensures answer { result ≡ size_answer self.old processors variables }
+        ensures after { self.new ≡ size_after self.old processors variables }
     {
-        if processors < 1 || processors > 8 || variables < 1 || variables > 16 {
-            return (7, 0);
+        answer(self.resize(processors, variables))
+    }
+
+    fn resize(&mut self, processors: u8, variables: u8) -> Result<u16, Refusal>
+        ensures answer { answered result ≡ size_answer self.old processors variables }
+        ensures after { self.new ≡ size_after self.old processors variables }
+    {
+        if !(1..=8).contains(&processors) || !(1..=16).contains(&variables) {
+            return Err(Refusal::Size);
         }
         if self.total != 0 {
-            return (6, 0);
+            return Err(Refusal::Recorded);
         }
         *self = Table::empty(processors, variables);
-        (0, 0)
+        Ok(0)
     }
 
     // Whether there is such a processor.
-    pub(crate) fn has_processor(&self, processor: usize) -> bool
-        ensures value { result ≡ within 1 (processor_count (trace_of self.now)) processor }
-        ensures bounds { MatchBool result (Within 1 self.now.processors processor) (Within 1 self.now.processors processor → ⊥) }
+    fn has_processor(&self, processor: usize) -> bool
+        ensures { result ≡ within 1 (processor_count self.now) processor }
     {
-        processor >= 1 && processor <= self.processors as usize
+        (1..=self.lanes.len()).contains(&processor)
     }
 
     // Whether the number names a position of one of the processors, recorded or not.
     fn names_position(&self, number: u16) -> bool
-        ensures { result ≡ is_position (processor_count (trace_of self.now)) number }
+        ensures { result ≡ is_position (processor_count self.now) number }
     {
-        let position = number % 100;
-        self.has_processor((number / 100) as usize) && position >= 1 && position <= 64
+        self.has_processor(usize::from(number / 100)) && (1..=64).contains(&(number % 100))
     }
 
     fn admits_source(&self, kind: Kind, source: u16) -> bool
-        ensures { result ≡ source_fits (processor_count (trace_of self.now)) (kind_number kind) source }
+        ensures { result ≡ source_fits (processor_count self.now) (kind_number kind) source }
     {
         match kind {
             Kind::Read => source == 0 || self.names_position(source),
@@ -71,25 +85,27 @@ impl Table {
         }
     }
 
-    fn put(&mut self, processor: u8, lane: Lane, total: usize)
-        requires processor { Within 1 self.old.processors processor }
-        requires room { total ≤ 64 }
-        requires counted { total + length (lane_at (trace_of self.old) processor) ≡ self.old.total + length (lane_of lane) }
-        requires fit { lane_fits self.old.processors self.old.variables (lane_of lane) ≡ true }
-        ensures { trace_of self.new ≡ with_lane (trace_of self.old) processor (lane_of lane) }
+    // The lane of a processor, to be changed and put back.
+    fn take_lane(&self, processor: u8) -> Result<Lane, Refusal>
+        ensures { result ≡ cond (within 1 (processor_count self.now) processor) (Ok (lane_at self.now processor)) (Err refused.Processor) }
     {
-        self.lanes[processor as usize - 1] = lane;
-        self.total = total;
+        let place = usize::from(processor)
+            .checked_sub(1)
+            .ok_or(Refusal::Processor)?;
+        self.lanes
+            .as_slice()
+            .get(place)
+            .copied()
+            .ok_or(Refusal::Processor)
     }
 
-    fn push(&mut self, processor: u8, operation: Operation)
-        requires processor { Within 1 self.old.processors processor }
-        requires room { self.old.total < 64 }
-        requires fit { fitting self.old.processors self.old.variables operation ≡ true }
-        ensures { trace_of self.new ≡ appended (trace_of self.old) processor operation }
+    fn put(&mut self, processor: u8, lane: Lane, total: usize)
+        requires processor { Within 1 (processor_count self.old) processor }
+        requires kept { Kept total (with_lane self.old processor lane) }
+        ensures { self.new ≡ with_lane self.old processor lane }
     {
-        let lane = self.lanes[processor as usize - 1].pushed(operation);
-        self.put(processor, lane, self.total + 1);
+        self.lanes.replace(usize::from(processor) - 1, lane);
+        self.total = total;
     }
 
     /// Records an operation at the end of a processor, and answers its number.
@@ -101,51 +117,64 @@ impl Table {
         source: u16,
         value: u32,
     ) -> (u8, u16)
-        ensures answer { result ≡ record_answer (trace_of self.old) processor kind variable source }
-        ensures after { trace_of self.new ≡ record_after (trace_of self.old) processor kind variable source value }
+        ensures answer { result ≡ record_answer self.old processor kind variable source }
+        ensures after { self.new ≡ record_after self.old processor kind variable source value }
     {
-        if !self.has_processor(processor as usize) {
-            return (1, 0);
-        }
-        let Some(kind) = Kind::from_number(kind) else {
-            return (2, 0);
-        };
-        if variable < 1 || variable > self.variables {
-            return (3, 0);
+        answer(self.add(processor, kind, variable, source, value))
+    }
+
+    fn add(
+        &mut self,
+        processor: u8,
+        kind: u8,
+        variable: u8,
+        source: u16,
+        value: u32,
+    ) -> Result<u16, Refusal>
+        ensures answer { answered result ≡ record_answer self.old processor kind variable source }
+        ensures after { self.new ≡ record_after self.old processor kind variable source value }
+    {
+        let mut lane = self.take_lane(processor)?;
+        let kind = Kind::try_from(kind)?;
+        if !(1..=self.variables).contains(&variable) {
+            return Err(Refusal::Variable);
         }
         if !self.admits_source(kind, source) {
-            return (4, 0);
+            return Err(Refusal::Source);
         }
         if self.total >= 64 {
-            return (5, 0);
+            return Err(Refusal::Full);
         }
-        let position = self.lanes[processor as usize - 1].len() + 1;
-        self.push(
-            processor,
-            Operation {
-                kind,
-                variable,
-                source,
-                value,
-            },
-        );
-        (0, 100 * u16::from(processor) + position as u16)
+        let operation = Operation {
+            kind,
+            variable,
+            source,
+            value,
+        };
+        let position = lane.len() + 1;
+        let _ = lane.push(operation);
+        self.put(processor, lane, self.total + 1);
+        Ok(number_of(processor, position))
     }
 
     /// Removes the last operation of a processor, and answers its number.
     pub fn strike(&mut self, processor: u8) -> (u8, u16)
-        ensures answer { result ≡ strike_answer (trace_of self.old) processor }
-        ensures after { trace_of self.new ≡ strike_after (trace_of self.old) processor }
+        ensures answer { result ≡ strike_answer self.old processor }
+        ensures after { self.new ≡ strike_after self.old processor }
     {
-        if !self.has_processor(processor as usize) {
-            return (1, 0);
-        }
-        let lane = self.lanes[processor as usize - 1];
+        answer(self.remove_last(processor))
+    }
+
+    fn remove_last(&mut self, processor: u8) -> Result<u16, Refusal>
+        ensures answer { answered result ≡ strike_answer self.old processor }
+        ensures after { self.new ≡ strike_after self.old processor }
+    {
+        let mut lane = self.take_lane(processor)?;
         let position = lane.len();
-        if position == 0 {
-            return (8, 0);
+        if lane.pop().is_none() {
+            return Err(Refusal::Nothing);
         }
-        self.put(processor, lane.popped(), self.total - 1);
-        (0, 100 * u16::from(processor) + position as u16)
+        self.put(processor, lane, self.total - 1);
+        Ok(number_of(processor, position))
     }
 }

@@ -1,58 +1,65 @@
 //! What a table holds.
 ghost use Rattle.std.specs.Prelude.{◌≡◌};
-ghost use Rattle.trace.specs.Tables.{trace_of};
 ghost use Rattle.trace.specs.Traces.{processor_count, operation_count, starting_value, lane_at, operation_at, WellFormed};
 
 use crate::operation::Operation;
 use crate::table::Table;
 
 impl Table {
-    /// Gives the number of processors.
+    /// Gives the number of processors. The trace is well-formed, whatever calls made it.
     pub fn processors(&self) -> u8
-        ensures { result ≡ processor_count (trace_of self.now) }
+        ensures value { result ≡ processor_count self.now }
+        ensures formed { WellFormed self.now }
     {
-        self.processors
+        self.lanes.len() as u8
     }
 
     /// Gives the number of variables.
     pub fn variables(&self) -> u8
-        ensures { result ≡ (trace_of self.now).variables }
+        ensures { result ≡ self.now.variables }
     {
         self.variables
     }
 
     /// Gives the number of operations, over all processors. The trace is well-formed, whatever calls made it.
     pub fn total(&self) -> usize
-        ensures value { result ≡ operation_count (trace_of self.now) }
-        ensures formed { WellFormed (trace_of self.now) }
+        ensures value { result ≡ operation_count self.now }
+        ensures formed { WellFormed self.now }
     {
         self.total
     }
 
+    // The operations of a processor, which may be any number.
+    pub(crate) fn lane_at(&self, processor: usize) -> &[Operation]
+        ensures { result.now ≡ lane_at self.now processor }
+    {
+        let Some(place) = processor.checked_sub(1) else {
+            return &[];
+        };
+        match self.lanes.as_slice().get(place) {
+            Some(lane) => lane.as_slice(),
+            None => &[],
+        }
+    }
+
     /// Gives the operations of a processor, first to last; none where there is no such processor.
     pub fn lane(&self, processor: u8) -> &[Operation]
-        ensures { result.now ≡ lane_at (trace_of self.now) processor }
+        ensures { result.now ≡ lane_at self.now processor }
     {
-        if !self.has_processor(processor as usize) {
-            return &[];
-        }
-        self.lanes[processor as usize - 1].operations()
+        self.lane_at(usize::from(processor))
     }
 
     /// Gives the operation of a number, where there is one.
     pub fn operation(&self, number: u16) -> Option<Operation>
-        ensures { result ≡ operation_at (trace_of self.now) number }
+        ensures { result ≡ operation_at self.now number }
     {
-        let processor = (number / 100) as usize;
-        if !self.has_processor(processor) {
-            return None;
-        }
-        self.lanes[processor - 1].get((number % 100) as usize)
+        let place = usize::from(number % 100).checked_sub(1)?;
+        self.lane_at(usize::from(number / 100)).get(place).copied()
     }
 
     /// Gives the value that a variable has before any write.
     pub fn starting_value(&self, variable: u8) -> u32
-        ensures { result ≡ starting_value (trace_of self.now) variable }
+        ensures { result ≡ starting_value self.now variable }
     {
         let _ = variable;
         0

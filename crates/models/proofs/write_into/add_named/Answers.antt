@@ -1,27 +1,20 @@
-use Rattle.std.proofs.Common.{◌||◌, ap, ◌∙◌, subst, arith}
-use Rattle.opset.specs.Sets.{has}
-use Rattle.trace.specs.Tables.{trace_of}
-use Rattle.ranks.specs.Listings.{listed}
-use Rattle.ranks.specs.Numbers.{numbers, number_at}
-use Rattle.models.specs.Rows.{Row}
-use Rattle.models.specs.Layers.{Names}
-use Rattle.models.proofs.Passing.{Gained, changing_starts, changing_set, gained, gained_all}
+use Rattle.std.proofs.Common.{◌≡◌, MatchOption, Some, None, refl, ap, ◌∙◌, subst, rules, arith}
+use Rattle.ranks.specs.Numbers.{numbers, number_at, Unlisted, RankOf}
+use Rattle.models.proofs.Passing.{NamedRank, named_rank, named_turn}
 use Rattle.models.proofs.write_into.add_named.Goals as goal
-
-pub loop-rank-init : goal.loop-rank-init
-loop-rank-init c = changing_starts _ _
+use Rattle.models.proofs.write_into.add_named.Goals.{in-Some, in_default}
 
 pub loop-rank-preserved : goal.loop-rank-preserved
 loop-rank-preserved c =
-    let t = trace_of c.args.table.now in
-    let rows = c.args.rows.now in
-    let n = c.loop-rank.rank in
+    let t = c.args.table.now in
     let list = c.of-ranks.ensures.value in
-    let at = c.number.ensures ∙ ap (λ xs. number_at xs n) list in
-    let more = subst (λ xs. Row (λ i. Names t i (number_at (numbers t) n)) xs c.named.result) list (subst (λ j. Row (λ i. Names t i j) (listed c.of-ranks.result) c.named.result) at c.named.ensures) in
-    changing_set (Gained (Names t) (numbers t) rows) rows n c.loop-rank.rows c.union.result (omega (arith, c.told-rows, c.loop-rank-test.true)) c.loop-rank.invariant
-    (gained (Names t) (numbers t) rows n c.named.result c.union.result more
-    (λ i. c.union.ensures i ∙ ap (λ r. has r i || has c.named.result i) (c.loop-rank.invariant.left n (omega arith))))
-
-pub returns : goal.returns
-returns c = gained_all _ _ _ _ _ c.loop-rank-test.false c.loop-rank.invariant
+    let facts = c.of-ranks.ensures.facts in
+    let n = c.loop-rank.rank in
+    let j = number_at (numbers t) n in
+    let at : c.number.result ≡ j = c.number.ensures ∙ ap (λ xs. number_at xs n) list in
+    let ranked : MatchOption c.named.result (c.and_then-write.result ≡ None) (λ w. MatchOption c.and_then-write.result (Unlisted c.of-ranks.result w) (RankOf c.of-ranks.result w)) = search rules in
+    let rank = named_rank t facts j c.named.result c.and_then-write.result (rw (← at) c.named.ensures) (rw (← list) ranked) in
+    elim c.match-write.branch [
+      | in-Some w ↦ rw w.rows-is (named_turn t facts _ c.loop-rank.rows n w.with.result (omega arith) c.loop-rank.invariant (Some w.in-Some.write) (subst (NamedRank t j) w.in-Some.is rank) w.with.ensures.holds)
+      | in_default w ↦ rw w.rows-is (named_turn t facts _ c.loop-rank.rows n _ (omega arith) c.loop-rank.invariant None (subst (NamedRank t j) w.in_default.is rank) refl)
+    ]

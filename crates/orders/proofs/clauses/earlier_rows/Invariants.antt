@@ -1,7 +1,6 @@
-use Rattle.trace.specs.Tables.{trace_of}
 use Rattle.orders.proofs.Agreeing.{Tabled}
 use Rattle.orders.proofs.clauses.earlier_rows.Given as goal
 
 -- the table of the numbers so far
 abbrev pub invariant-loop-number : goal.invariant-loop-number
-invariant-loop-number l = Tabled (trace_of l.table) l.list l.number-index l.rows l.seen
+invariant-loop-number l = Tabled l.table l.list l.number-index l.rows l.seen

@@ -1,7 +1,7 @@
-use Rattle.std.proofs.Common.{sym, refl, ◌∙◌}
+use Rattle.std.proofs.Common.{sym, ◌∙◌}
 use Rattle.std.proofs.lemmas.Bool.{false≢true}
-use Rattle.orders.proofs.Parting.{each_none, each_all}
-use Rattle.orders.proofs.LastWrites.{SeesSource, kind_is_read, kind_is_not_read, seeing_fails, seeing_read, seeing_write, seeing_nothing}
+use Rattle.orders.proofs.Parting.{each_none}
+use Rattle.orders.proofs.LastWrites.{kind_is_read, kind_is_not_read, seeing_fails, seeing_read, seeing_write, seeing_nothing}
 use Rattle.orders.proofs.clauses.is_seeing.Goals as goal
 use Rattle.orders.proofs.clauses.is_seeing.Goals.{in-Some+else-eq, else-eq-via-then-eq+else-operation-last_write, else-eq-via-else-eq, in_default}
 
@@ -24,6 +24,3 @@ loop-place-preserved c =
           ]
       | in_default w ↦ seeing_nothing _ c.args.list.now _ c.loop-place-test.true c.loop-place.invariant (sym c.operation.ensures ∙ w.in_default.is)
     ]
-
-pub returns : goal.returns
-returns c = (λ _. each_all (SeesSource _) _ _ c.loop-place-test.false c.loop-place.invariant, λ _. refl)

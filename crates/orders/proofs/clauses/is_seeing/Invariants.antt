@@ -1,9 +1,8 @@
 use Rattle.std.proofs.Common.{take}
-use Rattle.trace.specs.Tables.{trace_of}
 use Rattle.orders.proofs.Parting.{Each}
 use Rattle.orders.proofs.LastWrites.{SeesSource}
 use Rattle.orders.proofs.clauses.is_seeing.Given as goal
 
 -- the reads so far see their sources
 abbrev pub invariant-loop-place : goal.invariant-loop-place
-invariant-loop-place l = Each (SeesSource (trace_of l.table)) (take l.place l.list)
+invariant-loop-place l = Each (SeesSource l.table) (take l.place l.list)

@@ -1,7 +1,4 @@
-use Rattle.std.proofs.Common.{subst}
-use Rattle.std.proofs.lemmas.List.{take_all}
-use Rattle.trace.specs.Tables.{trace_of}
-use Rattle.orders.specs.Orders.{LastWrite, none}
+use Rattle.orders.specs.Orders.{none}
 use Rattle.orders.proofs.LastWrites.{last_moves, last_stays}
 use Rattle.orders.proofs.clauses.last_write.Goals as goal
 use Rattle.orders.proofs.clauses.last_write.Goals.{then-is_write_to, else-is_write_to}
@@ -15,6 +12,3 @@ loop-number-preserved c =
       | then-is_write_to w ↦ last_moves _ _ c.args.list.now _ _ _ _ c.loop-number-test.true c.loop-number.invariant c.is_write_to.ensures w.if-is_write_to.true w.last-is
       | else-is_write_to w ↦ last_stays _ _ c.args.list.now _ _ _ _ c.loop-number-test.true c.loop-number.invariant c.is_write_to.ensures w.if-is_write_to.false w.last-is
     ]
-
-pub returns : goal.returns
-returns c = subst (λ l. LastWrite (trace_of c.args.table.now) c.args.variable l c.loop-number.last) (take_all c.loop-number.number-index c.args.list.now c.loop-number-test.false) c.loop-number.invariant

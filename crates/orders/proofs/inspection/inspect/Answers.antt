@@ -1,16 +1,15 @@
-use Rattle.trace.specs.Tables.{trace_of}
-use Rattle.trace.proofs.Forming.{well_formed}
+use Rattle.std.proofs.Common.{arith}
 use Rattle.orders.proofs.Answering.{answers_refused, answers_found, one_answer, answer_passes, answer_fails}
 use Rattle.orders.proofs.inspection.inspect.Goals as goal
 
-pub returns-then-refusal-ne0 : goal.returns-then-refusal-ne0
-returns-then-refusal-ne0 g c =
+pub returns-in_default : goal.returns-in_default
+returns-in_default g c =
     let m = g.M.MemoryModel.meaning c.args.model.now in
     let laws = g.M.MemoryModel.laws c.args.model.now in
-    let t = trace_of c.args.table.now in
-    let formed = well_formed c.args.table.now in
+    let t = c.args.table.now in
+    let formed = c.completeness.ensures.formed in
     let numbers = c.args.numbers.now in
-    let is = answers_refused m laws t formed numbers c.completeness-refusal.result c.completeness-refusal.ensures.complete c.completeness-refusal.ensures.answer c.if-refusal-ne0.true in
+    let is = answers_refused m laws t formed numbers c.completeness.result c.completeness.ensures.complete c.completeness.ensures.answer (λ e. omega arith) in
     record {
       answer = is;
       one = λ other i. one_answer m laws t formed numbers other _ i is;
@@ -18,14 +17,14 @@ returns-then-refusal-ne0 g c =
       fails = answer_fails m laws t formed numbers _ is;
     }
 
-pub returns : goal.returns
-returns g c =
+pub returns-in-0-default : goal.returns-in-0-default
+returns-in-0-default g c =
     let m = g.M.MemoryModel.meaning c.args.model.now in
     let laws = g.M.MemoryModel.laws c.args.model.now in
-    let t = trace_of c.args.table.now in
-    let formed = well_formed c.args.table.now in
+    let t = c.args.table.now in
+    let formed = c.completeness.ensures.formed in
     let numbers = c.args.numbers.now in
-    let is = answers_found m laws t formed numbers c.completeness-refusal.result c.completeness-refusal.ensures.complete c.find.result c.if-refusal-ne0.false c.find.ensures in
+    let is = answers_found m laws t formed numbers c.completeness.result c.completeness.ensures.complete c.value.result (omega arith) c.value.ensures in
     record {
       answer = is;
       one = λ other i. one_answer m laws t formed numbers other _ i is;

@@ -1,6 +1,3 @@
-use Rattle.trace.specs.Tables.{trace_of}
-use Rattle.trace.proofs.Forming.{well_formed}
-use Rattle.ranks.proofs.Facts.{facts}
 use Rattle.search.proofs.Finding.{found_or_none}
 use Rattle.search.proofs.first.first_orders.Goals as goal
 
@@ -8,4 +5,4 @@ pub returns : goal.returns
 returns g c =
     let model = c.args.model.now in
     let table = c.args.table.now in
-    found_or_none (g.M.MemoryModel.meaning model) (g.M.MemoryModel.laws model) (trace_of table) (facts (trace_of table) (well_formed table).few) c.of.result c.of.ensures c.first_orders.result c.first_orders.ensures
+    found_or_none (g.M.MemoryModel.meaning model) (g.M.MemoryModel.laws model) table c.of.ensures.facts c.of.result c.of.ensures.tabled c.first_orders.result c.first_orders.ensures

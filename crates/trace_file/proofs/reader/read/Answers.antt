@@ -1,15 +1,16 @@
-use Rattle.std.proofs.Common.{◌≡◌, ◌+◌, length, Ok, Err, sym, ap, ◌∙◌, subst, arith, rules}
+use Rattle.std.proofs.Common.{◌≡◌, ℕ, ◌+◌, ◌-◌, ◌≤◌, List, length, Ok, Err, Result, sym, refl, ap, ◌∙◌, subst, arith, rules}
 use Rattle.std.specs.List.{between}
 use Rattle.std.proofs.lemmas.List.{take_rest}
 use Rattle.std.proofs.lemmas.Result.{err_from_is_err_and}
-use Rattle.trace.specs.Tables.{trace_of}
 use Rattle.trace_file.specs.declared.faults.FileFault.TheVariants.{Size, Section, LeftOver}
+use Rattle.trace.specs.Traces.{Trace}
+use Rattle.trace_file.specs.declared.faults.SectionFault.{SectionFault}
 use Rattle.trace_file.specs.Reading.{read_section, read_file}
-use Rattle.trace_file.specs.Outcomes.{SectionRead, SectionEntered, reading_of}
-use Rattle.trace_file.proofs.Entering.{size_accepted}
+use Rattle.trace_file.specs.Outcomes.{placed, SectionRead, reading_of}
 use Rattle.trace_file.proofs.Telling.{file_read}
-use Rattle.trace_file.proofs.Steps.{placed_ok, placed_err, file_starts, section_again, section_faulty, file_over, file_ends}
+use Rattle.trace_file.proofs.Steps.{Sectioning, placed_err, section_next, section_faulty, file_over, file_ends}
 use Rattle.trace_file.proofs.reader.read.Goals as goal
+use Rattle.trace_file.proofs.reader.read.Goals.{else-loop-section-test, then-loop-section-test+in_ok-start+else-section-processors}
 
 pub returns-in_err-processors : goal.returns-in_err-processors
 returns-in_err-processors c =
@@ -21,41 +22,66 @@ returns-in_default c =
     let e : reading_of (Err Size) ≡ read_file c.args.bytes.now = search rules in
     file_read c.args.bytes.now (Err Size) (λ k. (c.type_inv.bytes k).fits) e
 
-pub loop-before-init : goal.loop-before-init
-loop-before-init c =
-    let size = c.in_ok-processors.ensures in
-    let zero : c.size.result.0 ≡ 0 = omega arith in
-    let w = size_accepted (trace_of c.new-table.result) (trace_of c.size.new.self) c.in_ok-processors.processors c.in_ok-processors.variables c.size.result c.size.ensures.answer c.size.ensures.after zero in
-    file_starts c.args.bytes.now _ _ _ size.within size.processors size.variables w.0 w.1
-
-pub read_section-requires : goal.read_section-requires
-read_section-requires c = (omega arith, omega arith)
-
 pub returns-in_err-start : goal.returns-in_err-start
 returns-in_err-start c =
     let b = c.args.bytes.now in
-    let s = c.loop-before.before + 1 in
-    let t = trace_of c.loop-before.table in
+    let s = c.loop-section.section in
+    let before : s - 1 + 1 ≡ s = omega (arith, c.loop-section.auto.section) in
+    let t = c.loop-section.table in
     let p = err_from_is_err_and c.from_residual-in_err-start.result c.from_residual-in_err-start.ensures.1 in
     let q = placed_err s c.read_section.result c.in_err-start.field-0.0 c.in_err-start.ensures in
-    let e = subst (λ r. SectionRead t s (between c.loop-before.start (length b) b) r (trace_of c.read_section.new.table)) q.1 c.read_section.ensures in
+    let e = subst (λ r. SectionRead t s (between c.loop-section.start (length b) b) r c.read_section.new.table) q.1 c.read_section.ensures in
     file_read b _ (λ k. (c.type_inv.bytes k).fits)
     (ap reading_of (p.1 ∙ ap Err (p.2 ∙ ap Section q.2))
-    ∙ sym (section_faulty b _ t _ _ c.loop-before.invariant q.0 c.loop-before-test.true (ap (read_section t s) (sym (take_rest b c.loop-before.start)) ∙ e)))
+    ∙ sym (section_faulty b _ t _ _ c.loop-section.invariant s q.0 before c.loop-section-test.true (ap (read_section t s) (sym (take_rest b c.loop-section.start)) ∙ e)))
 
-pub loop-before-preserved : goal.loop-before-preserved
-loop-before-preserved c =
-    let b = c.args.bytes.now in
-    let s = c.loop-before.before + 1 in
-    let t = trace_of c.loop-before.table in
-    let u = trace_of c.read_section.new.table in
-    let q = placed_ok s c.read_section.result c.in_ok-start.field-0 c.in_ok-start.ensures in
-    let e = subst (λ r. SectionRead t s (between c.loop-before.start (length b) b) r u) q c.read_section.ensures in
-    section_again b _ t _ _ c.loop-before.invariant _ u c.loop-before-test.true
-    (subst (λ tail. SectionEntered t s tail c.in_ok-start.field-0 u) (take_rest b c.loop-before.start) e)
+-- one section more
+module _ (b : List ℕ) (count : ℕ) (t u : Trace) (s start n : ℕ) (r : Result ℕ SectionFault) (v : Sectioning b count t (s - 1) start) (some : 1 ≤ s) (high : s ≤ count)
+    (is : Ok n ≡ placed s r) (read : SectionRead t s (between start (length b) b) r u) where
+  next_one : Sectioning b count u s (start + n)
+  next_one = section_next b count t (s - 1) start v s n u r (omega (arith, some)) high is (subst (λ tail. SectionRead t s tail r u) (take_rest b start) read)
+
+pub loop-section-preserved : goal.loop-section-preserved
+loop-section-preserved c =
+    let s = c.loop-section.section in
+    let again : s ≡ s + 1 - 1 = omega (arith, c.loop-section.auto.section) in
+    subst (λ k. Sectioning c.args.bytes.now c.in_ok-processors.processors c.read_section.new.table k (c.loop-section.start + c.in_ok-start.field-0)) again
+    (next_one _ _ _ _ s _ _ _ c.loop-section.invariant c.loop-section.auto.section c.loop-section-test.true c.in_ok-start.ensures c.read_section.ensures)
 
 pub returns-then-start-bytes : goal.returns-then-start-bytes
-returns-then-start-bytes c = file_read _ (Err LeftOver) (λ k. (c.type_inv.bytes k).fits) (sym (file_over _ _ _ _ _ c.loop-before.invariant (omega arith) c.if-start-bytes.true))
+returns-then-start-bytes c =
+    let b = c.args.bytes.now in
+    let p = c.in_ok-processors.processors in
+    let s = c.loop-section.section in
+    let ended : Sectioning b p c.loop-section-test.table p c.loop-section-test.start =
+    elim c.loop-section-test.branch [
+      | else-loop-section-test w ↦
+          let all : s - 1 ≡ p = omega (arith, w.loop-section-test.false, c.loop-section.invariant.turns) in
+          rw (w.table-is, w.start-is) (subst (λ k. Sectioning b p c.loop-section.table k c.loop-section.start) all c.loop-section.invariant)
+      | then-loop-section-test+in_ok-start+else-section-processors w ↦
+          let all : s ≡ p = omega (arith, w.loop-section-test.true) in
+          rw (w.table-is, w.start-is)
+          (subst (λ k. Sectioning b p w.read_section.new.table k (c.loop-section.start + w.in_ok-start.field-0)) all
+          (next_one _ _ _ _ s _ _ _ c.loop-section.invariant c.loop-section.auto.section w.loop-section-test.true w.in_ok-start.ensures w.read_section.ensures))
+    ]
+    in
+    file_read b (Err LeftOver) (λ k. (c.type_inv.bytes k).fits) (sym (file_over _ _ _ _ _ ended refl c.if-start-bytes.true))
 
 pub returns : goal.returns
-returns c = file_read _ (Ok c.loop-before.table) (λ k. (c.type_inv.bytes k).fits) (sym (file_ends _ _ _ _ _ c.loop-before.invariant (omega arith) c.if-start-bytes.false))
+returns c =
+    let b = c.args.bytes.now in
+    let p = c.in_ok-processors.processors in
+    let s = c.loop-section.section in
+    let ended : Sectioning b p c.loop-section-test.table p c.loop-section-test.start =
+    elim c.loop-section-test.branch [
+      | else-loop-section-test w ↦
+          let all : s - 1 ≡ p = omega (arith, w.loop-section-test.false, c.loop-section.invariant.turns) in
+          rw (w.table-is, w.start-is) (subst (λ k. Sectioning b p c.loop-section.table k c.loop-section.start) all c.loop-section.invariant)
+      | then-loop-section-test+in_ok-start+else-section-processors w ↦
+          let all : s ≡ p = omega (arith, w.loop-section-test.true) in
+          rw (w.table-is, w.start-is)
+          (subst (λ k. Sectioning b p w.read_section.new.table k (c.loop-section.start + w.in_ok-start.field-0)) all
+          (next_one _ _ _ _ s _ _ _ c.loop-section.invariant c.loop-section.auto.section w.loop-section-test.true w.in_ok-start.ensures w.read_section.ensures))
+    ]
+    in
+    file_read b (Ok c.loop-section-test.table) (λ k. (c.type_inv.bytes k).fits) (sym (file_ends _ _ _ _ _ ended refl c.if-start-bytes.false))

@@ -1,33 +1,27 @@
-use Rattle.std.proofs.Common.{◌+◌, ◌<◌, length, sym, subst, arith, rules}
+use Rattle.std.proofs.Common.{◌≡◌, ◌+◌, ◌-◌, ◌<◌, length, sym, ap, ◌∙◌, get_or, subst, arith, rules}
+use Rattle.std.specs.List.{between}
 use Rattle.std.proofs.lemmas.Result.{err_from_is_err_and}
-use Rattle.trace.specs.Operations.{Within}
-use Rattle.trace.specs.Tables.{trace_of}
 use Rattle.trace_file.specs.Outcomes.{RecordRead, SectionRead}
-use Rattle.trace_file.proofs.Steps.{placed_ok, placed_err, record_starts, record_again, section_stops, section_ends}
+use Rattle.trace_file.proofs.Steps.{Recording, placed_err, record_next, section_stops}
 use Rattle.trace_file.proofs.reader.read_section.Goals as goal
-
-pub loop-before-init : goal.loop-before-init
-loop-before-init c = record_starts _ _ _ _
-
-pub read_record-requires : goal.read_record-requires
-read_record-requires c = subst (λ n. Within 1 n c.args.section) (sym c.loop-before.invariant.processors) c.requires
 
 pub returns-in_err-rest : goal.returns-in_err-rest
 returns-in_err-rest c =
     let h : 0 < length c.args.bytes.now = search rules in
     let p = err_from_is_err_and c.from_residual.result c.from_residual.ensures.1 in
-    let q = placed_err (c.loop-before.before + 1) c.read_record.result c.in_err-rest.field-0.0 c.in_err-rest.ensures in
-    let e = subst (λ r. RecordRead (trace_of c.loop-before.table) c.args.section c.loop-before.rest.now r (trace_of c.read_record.new.table)) q.1 c.read_record.ensures in
-    subst (λ r. SectionRead (trace_of c.args.table.now) c.args.section c.args.bytes.now r (trace_of c.read_record.new.table)) (sym p.1)
-    (section_stops _ _ _ _ _ _ p.0 c.in_err-rest.field-0.0 q.0 h c.loop-before-test.true c.loop-before.invariant e p.2 q.2)
+    let k = c.loop-position.position in
+    let q = placed_err k c.read_record.result c.in_err-rest.field-0.0 c.in_err-rest.ensures in
+    let before : k ≡ k - 1 + 1 = omega (arith, c.loop-position.auto.position) in
+    let e = subst (λ r. RecordRead c.loop-position.table c.args.section c.loop-position.rest.now r c.read_record.new.table) q.1 c.read_record.ensures in
+    subst (λ r. SectionRead c.args.table.now c.args.section c.args.bytes.now r c.read_record.new.table) (sym p.1)
+    (section_stops _ _ _ _ _ _ p.0 c.in_err-rest.field-0.0 q.0 h (omega (arith, before, c.loop-position-test.true)) c.loop-position.invariant e p.2 (q.2 ∙ ap (λ n. record { position = n; fault = q.0 }) before))
 
-pub loop-before-preserved : goal.loop-before-preserved
-loop-before-preserved c =
-    let e = placed_ok (c.loop-before.before + 1) c.read_record.result c.in_ok-rest.rest c.in_ok-rest.ensures in
-    record_again _ _ _ _ _ _ _ _ _ c.loop-before-test.true c.loop-before.invariant
-    (subst (λ r. RecordRead (trace_of c.loop-before.table) c.args.section c.loop-before.rest.now r (trace_of c.read_record.new.table)) e c.read_record.ensures)
-
-pub returns : goal.returns
-returns c =
-    let h : 0 < length c.args.bytes.now = search rules in
-    section_ends _ _ _ _ _ _ h (omega arith) c.loop-before.invariant
+pub loop-position-preserved : goal.loop-position-preserved
+loop-position-preserved c =
+    let bytes = c.args.bytes.now in
+    let k = c.loop-position.position in
+    let m = get_or bytes 0 0 in
+    let records = between 1 (length bytes) bytes in
+    let next : k ≡ k + 1 - 1 = omega (arith, c.loop-position.auto.position) in
+    subst (λ r. Recording c.args.table.now c.args.section m records c.read_record.new.table r c.in_ok-rest.rest.now) next
+    (record_next _ _ m records _ _ k _ _ _ c.loop-position.auto.position c.loop-position-test.true c.loop-position.invariant c.in_ok-rest.ensures c.read_record.ensures)
