@@ -63,6 +63,7 @@ impl<T: Blank, const N: usize> FixedList<T, N> {
     }
 
     /// Gives the items, first to last.
+    #[inline]
     pub fn as_slice(&self) -> &[T]
         ensures value { result.now ≡ self.now }
         ensures bound { length result.now ≤ N }
@@ -82,6 +83,7 @@ impl<T: Blank, const N: usize> FixedList<T, N> {
     }
 
     /// Gives the number of items.
+    #[inline]
     pub fn len(&self) -> usize
         ensures value { result ≡ length self.now }
         ensures bound { result ≤ N }
@@ -90,6 +92,7 @@ impl<T: Blank, const N: usize> FixedList<T, N> {
     }
 
     /// Puts an item at the end; a full list stays as it is.
+    #[inline]
     pub fn push(&mut self, item: T) -> Result<(), Full>
         ensures answer { IsOk result ↔ (length self.old < N) }
         ensures after { self.new ≡ cond (nat_lt (length self.old) N) (self.old ++ item ∷ []) self.old }
@@ -117,6 +120,7 @@ impl<T: Blank, const N: usize> FixedList<T, N> {
     }
 
     /// Takes the last item off, and gives it.
+    #[inline]
     pub fn pop(&mut self) -> Option<T>
         ensures item { result ≡ slice_get self.old (length self.old - 1) }
         ensures after { self.new ≡ take (length self.old - 1) self.old }
@@ -131,6 +135,7 @@ impl<T: Blank, const N: usize> FixedList<T, N> {
     }
 
     /// Puts an item in the place of another, and gives that; a list without that place stays as it is.
+    #[inline]
     pub fn replace(&mut self, index: usize, item: T) -> Option<T>
         ensures item { result ≡ slice_get self.old index }
         ensures after { self.new ≡ slice_set self.old index item }

@@ -1,10 +1,10 @@
 -- The closed table is the write-into order, rank by rank.
-use Rattle.std.proofs.Common.{◌≡◌, ℕ, ◌<◌, ◌≤◌, Bool, false, List, Option, Some, None, MatchOption, Decides, sym, refl, subst, inl, inr, ⊎_elim, arith}
+use Rattle.std.proofs.Common.{◌≡◌, ℕ, ◌<◌, Bool, false, List, Option, Some, None, MatchOption, Decides, sym, refl, subst, inl, inr, ⊎_elim, arith}
 use Rattle.std.proofs.lemmas.Bool.{both_ways}
 use Rattle.std.proofs.lemmas.Bool.Decides.{Decides-at}
 use Rattle.opset.specs.declared.OpSet.{OpSet}
 use Rattle.opset.specs.Sets.{has, Empty}
-use Rattle.trace.specs.Traces.{Trace, operation_count, There}
+use Rattle.trace.specs.Traces.{Trace, There}
 use Rattle.ranks.specs.Numbers.{numbers, number_at, Numbers, RankOf, Unlisted}
 use Rattle.models.specs.Meaning.{Meaning, Laws}
 use Rattle.models.specs.Chains.{Chain, one, more}

@@ -94,6 +94,23 @@ module _ (t : Trace) where
       (λ b. ap length (cond-false _ _ _ b) ∙ r ∙ sym (ap (λ xs. length xs + length (numbers_from t (i + suc n) m)) (cond-false _ _ _ b)))
       (cases_Bool (is_some (operation_at t i)))
 
+  -- the numbers of one processor stand at its positions, and no others
+  at : (a c : ℕ) → c < 99 → operation_at t (100 * a + 1 + c) ≡ positioned (lane_at t a) (c + 1)
+  at a c l =
+      let x : processor_of (100 * a + 1 + c) ≡ a = omega arith in
+      let y : position_of (100 * a + 1 + c) ≡ c + 1 = omega arith in
+      λ j. positioned (lane_at t (x j)) (y j)
+
+  here : (a c : ℕ) → c < length (lane_at t a) → length (lane_at t a) ≤ 64 → operation_at t (100 * a + 1 + c) ≡ Some (get_or (lane_at t a) (c + 1 - 1) unused)
+  here a c l h = at a c (omega arith) ∙ positioned_in (lane_at t a) (c + 1) unused (omega arith) (omega arith)
+
+  gone : (a c : ℕ) → length (lane_at t a) ≤ c → c < 100 → operation_at t (100 * a + 1 + c) ≡ None
+  gone a c l h =
+      ⊎_elim
+      (λ k. at a c k ∙ positioned_out (lane_at t a) (c + 1) (omega arith))
+      (λ k. let y : position_of (100 * a + 1 + c) ≡ 0 = omega arith in ap (positioned (lane_at t (processor_of (100 * a + 1 + c)))) y)
+      (cases_lt c 99)
+
   -- the numbers of one processor, from its position q + 1 on
   block : (p : ℕ) → length (lane_at t p) ≤ 64 → (n q : ℕ) → q + n ≡ 100 → length (numbers_from t (100 * p + 1 + q) n) ≡ length (lane_at t p) - q
   block p short zero q e = omega arith
@@ -105,22 +122,10 @@ module _ (t : Trace) where
       (λ l. ap length (cond-true _ _ _ (ap is_some (here p q l (omega arith)))) ∙ ap suc rest ∙ omega arith)
       (λ l. ap length (cond-false _ _ _ (ap is_some (gone p q l (omega arith)))) ∙ rest ∙ omega arith)
       (cases_lt q (length (lane_at t p)))
-    where
-      at : (a c : ℕ) → c < 99 → operation_at t (100 * a + 1 + c) ≡ positioned (lane_at t a) (c + 1)
-      at a c l =
-          let x : processor_of (100 * a + 1 + c) ≡ a = omega arith in
-          let y : position_of (100 * a + 1 + c) ≡ c + 1 = omega arith in
-          λ j. positioned (lane_at t (x j)) (y j)
 
-      here : (a c : ℕ) → c < length (lane_at t a) → length (lane_at t a) ≤ 64 → operation_at t (100 * a + 1 + c) ≡ Some (get_or (lane_at t a) (c + 1 - 1) unused)
-      here a c l h = at a c (omega arith) ∙ positioned_in (lane_at t a) (c + 1) unused (omega arith) (omega arith)
-
-      gone : (a c : ℕ) → length (lane_at t a) ≤ c → c < 100 → operation_at t (100 * a + 1 + c) ≡ None
-      gone a c l h =
-          ⊎_elim
-          (λ k. at a c k ∙ positioned_out (lane_at t a) (c + 1) (omega arith))
-          (λ k. let y : position_of (100 * a + 1 + c) ≡ 0 = omega arith in ap (positioned (lane_at t (processor_of (100 * a + 1 + c)))) y)
-          (cases_lt c 99)
+  -- a lane is no longer than all together
+  pub short : operation_count t ≤ 64 → (p : ℕ) → 1 ≤ p → p - 1 < processor_count t → length (lane_at t p) ≤ 64
+  short few p low within = omega (arith, ap length (lane_at_place t p low), get_or-le-sum_by length t.lanes (p - 1) [] within)
 
   -- the numbers of the processors from p on; w is 100, and not written out, so that nothing computes a hundred steps
   blocks : (w : ℕ) → w ≡ 100 → operation_count t ≤ 64 → (k p : ℕ) → 1 ≤ p → p + k ≡ processor_count t + 1 → length (numbers_from t (100 * p + 1) (100 * k)) ≡ sum_by length (drop (p - 1) t.lanes)
@@ -128,9 +133,9 @@ module _ (t : Trace) where
   blocks w hundred few (suc k) p low e =
       let within : p - 1 < length t.lanes = omega arith in
       let same = ap length (lane_at_place t p low) in
-      let short : length (lane_at t p) ≤ 64 = omega (arith, same, get_or-le-sum_by length t.lanes (p - 1) [] within) in
+      let few_here = short few p low within in
       let start : 100 * p + 1 ≡ 100 * p + 1 + 0 = omega arith in
-      let first : length (numbers_from t (100 * p + 1) w) ≡ length (lane_at t p) - 0 = ap (λ i. length (numbers_from t i w)) start ∙ block p short w 0 (omega arith) in
+      let first : length (numbers_from t (100 * p + 1) w) ≡ length (lane_at t p) - 0 = ap (λ i. length (numbers_from t i w)) start ∙ block p few_here w 0 (omega arith) in
       let next : 100 * p + 1 + w ≡ 100 * (p + 1) + 1 = omega arith in
       let after : p + 1 - 1 ≡ p - 1 + 1 = omega arith in
       let later : length (numbers_from t (100 * p + 1 + w) (100 * k)) ≡ sum_by length (drop (p - 1 + 1) t.lanes) =
@@ -161,3 +166,34 @@ module _ (t : Trace) where
 
     pub none_next : is_some (operation_at t i) ≡ false → numbers_from t i (end - i) ≡ numbers_from t (i + 1) (end - (i + 1))
     none_next e = ap (numbers_from t i) one_less ∙ cond-false _ _ _ e
+
+  -- numbers at which there is none are passed over
+  pub past : (k i end : ℕ) → i + k ≤ end → ((j : ℕ) → i ≤ j → j < i + k → is_some (operation_at t j) ≡ false) → numbers_from t i (end - i) ≡ numbers_from t (i + k) (end - (i + k))
+  past zero i end l none = ap (λ j. numbers_from t j (end - j)) (omega arith)
+  past (suc k) i end l none =
+      none_next i end (omega arith) (none i (omega arith) (omega arith))
+      ∙ past k (i + 1) end (omega arith) (λ j low high. none j (omega arith) (omega arith))
+      ∙ ap (λ j. numbers_from t j (end - j)) (omega arith)
+
+  -- after the last number of one processor stand those of the next
+  pub next_block : operation_count t ≤ 64 → (p end : ℕ) → 1 ≤ p → p - 1 < processor_count t → 100 * p + 101 ≤ end
+      → numbers_from t (100 * p + 1 + length (lane_at t p)) (end - (100 * p + 1 + length (lane_at t p))) ≡ numbers_from t (100 * p + 101) (end - (100 * p + 101))
+  next_block few p end low within room =
+      let h = short few p low within in
+      let n = length (lane_at t p) in
+      let whole : 100 * p + 1 + n + (100 - n) ≡ 100 * p + 101 = omega (arith, h) in
+      past (100 - n) (100 * p + 1 + n) end (omega (arith, whole)) (λ j l m. none_at p h j (omega (arith, l)) (omega (arith, m, whole)))
+      ∙ ap (λ j. numbers_from t j (end - j)) whole
+    where
+      none_at : (a : ℕ) → length (lane_at t a) ≤ 64 → (j : ℕ) → 100 * a + 1 + length (lane_at t a) ≤ j → j < 100 * a + 101 → is_some (operation_at t j) ≡ false
+      none_at a h j l m =
+          let c = j - (100 * a + 1) in
+          let e : j ≡ 100 * a + 1 + c = omega arith in
+          ap (λ i. is_some (operation_at t i)) e ∙ ap is_some (gone a c (omega arith) (omega arith))
+
+  -- there is an operation at each number of a lane
+  pub there_at : operation_count t ≤ 64 → (p i : ℕ) → 1 ≤ p → p - 1 < processor_count t → 100 * p + 1 ≤ i → i < 100 * p + 1 + length (lane_at t p) → There t i
+  there_at few p i low within l m =
+      let c = i - (100 * p + 1) in
+      let e : i ≡ 100 * p + 1 + c = omega arith in
+      ap (λ k. is_some (operation_at t k)) e ∙ ap is_some (here p c (omega arith) (short few p low within))

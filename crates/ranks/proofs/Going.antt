@@ -1,10 +1,10 @@
 -- The steps of listing the numbers of a trace, one number after another.
-use Rattle.std.proofs.Common.{◌≡◌, ℕ, ◌+◌, ◌-◌, ◌<◌, ◌≤◌, false, List, [], ◌∷◌, ◌++◌, length, cond, nat_lt, is_some, sym, ap, ◌∙◌, arith}
+use Rattle.std.proofs.Common.{◌≡◌, ℕ, ◌+◌, ◌-◌, ◌<◌, ◌≤◌, List, [], ◌∷◌, ◌++◌, length, cond, nat_lt, sym, ap, ◌∙◌, arith}
 use Rattle.std.proofs.lemmas.Bool.{cond-true, lt-ltb}
 use Rattle.std.proofs.lemmas.List.{append_assoc, length-append}
-use Rattle.trace.specs.Traces.{Trace, operation_count, operation_at, There}
+use Rattle.trace.specs.Traces.{Trace, operation_count, There}
 use Rattle.ranks.specs.Numbers.{numbers_from, numbers}
-use Rattle.ranks.proofs.Facts.{facts, here_next, none_next}
+use Rattle.ranks.proofs.Facts.{facts, here_next}
 
 module _ (t : Trace) (few : operation_count t ≤ 64) (list : List ℕ) (i end : ℕ) (h : i < end) (all : list ++ numbers_from t i (end - i) ≡ numbers t) where
   -- a number at which there is an operation has room in the list
@@ -18,7 +18,3 @@ module _ (t : Trace) (few : operation_count t ≤ 64) (list : List ℕ) (i end :
       ∙ append_assoc list (i ∷ []) (numbers_from t (i + 1) (end - (i + 1)))
       ∙ sym (ap (λ xs. list ++ xs) (here_next t i end h e))
       ∙ all
-
-  -- a number at which there is none is passed over
-  pub same : is_some (operation_at t i) ≡ false → list ++ numbers_from t (i + 1) (end - (i + 1)) ≡ numbers t
-  same e = sym (ap (λ xs. list ++ xs) (none_next t i end h e)) ∙ all

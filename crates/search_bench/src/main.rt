@@ -15,9 +15,6 @@ use trace_file::reader::read;
 // A search is repeated until this time is over.
 const NANOS: u64 = 200_000_000;
 
-// A letter stands before a file, and no byte of that past the 530th can matter.
-const ENOUGH: u64 = 531;
-
 // Prints the verdict, and the time of one search by tables that are filled already.
 fn measure<M: MemoryModel>(rt: &HostRuntime, model: &M, table: &Table) -> anyhow::Result<()> {
     let tables = Tables::of(model, table);
@@ -40,9 +37,10 @@ fn measure<M: MemoryModel>(rt: &HostRuntime, model: &M, table: &Table) -> anyhow
 }
 
 fn main(rt: HostRuntime) -> anyhow::Result<()> {
-    let mut input = Vec::new(rt.alloc());
-    rt.stdin().take(ENOUGH).read_to_end(&mut input)?;
-    let [letter, file @ ..] = input.as_slice() else {
+    // A letter stands before a file, and no byte of that past the 530th can matter.
+    let mut input = [0u8; 531];
+    let filled = rt.stdin().read(&mut input)?.min(531);
+    let [letter, file @ ..] = &input[..filled] else {
         return Ok(());
     };
     let Ok(table) = read(file) else {

@@ -1,14 +1,30 @@
 //! Reads a trace file from standard input and prints what is in it.
 #![tactic(auto)]
 
+ghost use Rattle.std.specs.Prelude.{◌≤◌, IfOk};
+
 use std::io;
 use std::io::Read;
 use trace::operation::{Kind, Operation};
 use trace::table::Table;
 use trace_file::reader::read;
 
+// Fills the buffer from standard input, as far as that goes, and gives how much of it is filled.
 // No byte past the 530th can alter what is read of a file.
-const ENOUGH: u64 = 530;
+fn fill(rt: &HostRuntime, input: &mut [u8; 530]) -> io::Result<usize>
+    ensures { IfOk result (λ n. n ≤ 530) }
+{
+    let mut stdin = rt.stdin();
+    let mut filled = 0;
+    for _ in 0..530 {
+        let more = stdin.read(&mut input[filled..])?;
+        if more == 0 {
+            break;
+        }
+        filled += more;
+    }
+    Ok(filled)
+}
 
 // Prints an operation with its number.
 fn show_operation(rt: &HostRuntime, number: usize, operation: &Operation) -> io::Result<()> {
@@ -67,9 +83,9 @@ fn show(rt: &HostRuntime, table: &Table) -> io::Result<()> {
 }
 
 fn main(rt: HostRuntime) -> io::Result<()> {
-    let mut input = Vec::new(rt.alloc());
-    rt.stdin().take(ENOUGH).read_to_end(&mut input)?;
-    match read(input.as_slice()) {
+    let mut input = [0u8; 530];
+    let filled = fill(&rt, &mut input)?;
+    match read(&input[..filled]) {
         Ok(table) => show(&rt, &table),
         Err(fault) => println!(rt; "refused {} at {}", fault.number(), fault.place()),
     }

@@ -1,5 +1,6 @@
 //! The calls that may change a table, as values, and the table that a list of them makes.
 ghost use Rattle.std.specs.Prelude.{◌≡◌};
+ghost use Rattle.trace.specs.Traces.{WellFormed};
 ghost use Rattle.trace_file.specs.Made.{change_answer, changed, made};
 
 use crate::reader::load;
@@ -35,6 +36,7 @@ pub enum Change {
 pub fn apply(table: &mut Table, change: &Change) -> (u8, u16)
     ensures answer { result ≡ change_answer table.old change.now }
     ensures after { table.new ≡ changed table.old change.now }
+    ensures formed { WellFormed table.new }
 {
     match change {
         Change::Size {
@@ -55,7 +57,8 @@ pub fn apply(table: &mut Table, change: &Change) -> (u8, u16)
 
 /// Makes a list of calls on a fresh table, and gives the table.
 pub fn play(changes: &[Change]) -> Table
-    ensures { result ≡ made changes.now }
+    ensures value { result ≡ made changes.now }
+    ensures formed { WellFormed result }
 {
     let mut table = Table::new();
     for change in changes {

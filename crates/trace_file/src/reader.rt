@@ -1,7 +1,7 @@
 //! The reader: from bytes to a table, up to the first fault.
 ghost use Rattle.std.specs.Prelude.{◌≡◌, ◌+◌, ◌*◌, ◌<◌};
 ghost use Rattle.trace.specs.Operations.{Within};
-ghost use Rattle.trace.specs.Traces.{processor_count};
+ghost use Rattle.trace.specs.Traces.{processor_count, WellFormed};
 ghost use Rattle.trace_file.specs.Outcomes.{RecordRead, SectionRead, SizeRead, FileRead, placed};
 ghost use Rattle.trace_file.specs.Reading.{read_file, load_answer, load_after};
 
@@ -93,7 +93,9 @@ pub fn read(bytes: &[u8]) -> Result<Table, FileFault>
 pub fn load(table: &mut Table, bytes: &[u8]) -> (u8, u16)
     ensures answer { result ≡ load_answer (read_file bytes.now) }
     ensures after { table.new ≡ load_after table.old (read_file bytes.now) }
+    ensures formed { WellFormed table.new }
 {
+    let _ = table.total();
     match read(bytes) {
         Ok(loaded) => {
             *table = loaded;

@@ -54,17 +54,17 @@ fn file_of(table: &Table) -> File
 }
 
 /// Writes the file of a table's trace from the first byte on, and answers its length; 14 where the bytes are too few.
+#[tactic(auto, using(crate::proofs::Lengths::file_length))]
 pub fn save(table: &Table, bytes: &mut [u8]) -> (u8, u16)
     ensures answer { result ≡ save_answer table.now (length bytes.old) }
     ensures after { bytes.new ≡ save_after table.now bytes.old }
     ensures size { length (file_of table.now) ≡ 2 + processor_count table.now + 8 * operation_count table.now }
     ensures back { read_file (file_of table.now) ≡ good table.now }
 {
-    let file = file_of(table);
-    let size = file.len();
+    let size = 2 + usize::from(table.processors()) + 8 * table.total();
     if bytes.len() < size {
         return (14, 0);
     }
-    bytes[..size].copy_from_slice(file.as_slice());
+    bytes[..size].copy_from_slice(file_of(table).as_slice());
     (0, size as u16)
 }

@@ -1,5 +1,6 @@
 //! Playing a call that is given as a value.
 ghost use Rattle.std.specs.Prelude.{◌≡◌};
+ghost use Rattle.trace.specs.Traces.{WellFormed};
 ghost use Rattle.judge.specs.Seen.{moved};
 ghost use Rattle.judge.specs.States.{Plays};
 
@@ -12,6 +13,7 @@ impl<M: MemoryModel> Judge<M> {
     pub fn play(&mut self, mut call: Call) -> Played
         ensures played { Plays (M.MemoryModel.meaning self.old.model) self.old.state call result self.new.state }
         ensures model { self.new ≡ moved self.old self.new.state }
+        ensures formed { WellFormed self.new.state.trace }
     {
         let (refusal, value) = match &mut call {
             Call::Change(change) => self.change(change),

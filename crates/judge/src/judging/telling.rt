@@ -1,5 +1,7 @@
 //! The calls that tell of a judge's trace: the verdict, the lists of views, the inspection of orders, and the file.
+//! Each asks the table for something, which tells as well that the trace is well-formed.
 ghost use Rattle.std.specs.Prelude.{◌≡◌, ℕ, length};
+ghost use Rattle.trace.specs.Traces.{WellFormed};
 ghost use Rattle.orders.specs.Inspecting.{Inspected};
 ghost use Rattle.trace_file.specs.Writing.{save_answer, save_after};
 ghost use Rattle.judge.specs.Seen.{moved};
@@ -16,6 +18,7 @@ impl<M: MemoryModel> Judge<M> {
     pub fn judge(&mut self) -> (u8, u16)
         ensures verdict { Judging (M.MemoryModel.meaning self.old.model) self.old.state result self.new.state }
         ensures model { self.new ≡ moved self.old self.new.state }
+        ensures formed { WellFormed self.new.state.trace }
     {
         let (refusal, place) = self.table.completeness();
         if refusal != 0 {
@@ -30,8 +33,10 @@ impl<M: MemoryModel> Judge<M> {
 
     /// Copies the list of a view, counted from 1, into the first of the slots, and answers how many numbers it has.
     pub fn view(&self, view: u8, slots: &mut [u16]) -> (u8, u16)
-        ensures { Showing self.now.state.standing view slots.old result slots.new }
+        ensures shown { Showing self.now.state.standing view slots.old result slots.new }
+        ensures formed { WellFormed self.now.state.trace }
     {
+        let _ = self.table.total();
         let Some(orders) = &self.first else {
             return (12, 0);
         };
@@ -45,7 +50,9 @@ impl<M: MemoryModel> Judge<M> {
     pub fn inspect(&self, numbers: &[u16]) -> (u8, u16)
         ensures answer { Inspected (M.MemoryModel.meaning self.now.model) self.now.state.trace numbers.now result }
         ensures one { (other : ℕ × ℕ) → Inspected (M.MemoryModel.meaning self.now.model) self.now.state.trace numbers.now other → other ≡ result }
+        ensures formed { WellFormed self.now.state.trace }
     {
+        let _ = self.table.total();
         inspect(&self.model, &self.table, numbers)
     }
 
@@ -53,7 +60,9 @@ impl<M: MemoryModel> Judge<M> {
     pub fn save(&self, bytes: &mut [u8]) -> (u8, u16)
         ensures answer { result ≡ save_answer self.now.state.trace (length bytes.old) }
         ensures after { bytes.new ≡ save_after self.now.state.trace bytes.old }
+        ensures formed { WellFormed self.now.state.trace }
     {
+        let _ = self.table.total();
         save(&self.table, bytes)
     }
 }

@@ -12,10 +12,11 @@ impl Ranks {
         ensures value { result ≡ numbers table.now }
         ensures facts { Numbers table.now }
     {
-        let end = 101 + 100 * u16::from(table.processors());
         let mut numbers = FixedList::new();
-        for number in 101..end {
-            if table.operation(number).is_some() {
+        for processor in 1..table.processors() + 1 {
+            let first = 100 * u16::from(processor) + 1;
+            let end = first + table.lane(processor).len() as u16;
+            for number in first..end {
                 let _ = numbers.push(number);
             }
         }
@@ -40,14 +41,16 @@ impl Ranks {
 
     /// Gives the number of the operation of a rank; 0 where there is none.
     pub fn number(&self, rank: usize) -> u16
-        ensures { result ≡ number_at self.now rank }
+        ensures value { result ≡ number_at self.now rank }
+        ensures bound { length self.now ≤ 64 }
     {
         self.as_slice().get(rank).copied().unwrap_or(0)
     }
 
     /// Gives the rank of the operation of a number, where that is listed.
     pub fn rank(&self, number: u16) -> Option<u8>
-        ensures { MatchOption result (Unlisted self.now number) (RankOf self.now number) }
+        ensures place { MatchOption result (Unlisted self.now number) (RankOf self.now number) }
+        ensures bound { length self.now ≤ 64 }
     {
         match self.numbers.as_slice().binary_search(&number) {
             Ok(rank) => Some(rank as u8),

@@ -10,9 +10,11 @@ impl Orders {
     pub fn list(&self, view: u8) -> Option<&[u16]>
         ensures list { MatchOption result (Within 1 (length self.now) view → ⊥) (λ list. IsView self.now view list.now) }
         ensures bound { IfSome result (λ list. length list.now ≤ 64) }
+        ensures few { length self.now ≤ 16 }
     {
+        let lists = self.lists.as_slice();
         let place = usize::from(view).checked_sub(1)?;
-        match self.lists.as_slice().get(place) {
+        match lists.get(place) {
             Some(list) => Some(list.as_slice()),
             None => None,
         }
@@ -22,6 +24,7 @@ impl Orders {
     pub fn show(&self, view: u8, slots: &mut [u16]) -> Result<usize, NotShown>
         ensures shown { Shown self.now view slots.old slots.new result }
         ensures bound { IfOk result (λ n. n ≤ 64) }
+        ensures few { length self.now ≤ 16 }
     {
         let Some(list) = self.list(view) else {
             return Err(NotShown::NoView);

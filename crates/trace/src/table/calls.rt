@@ -1,9 +1,9 @@
-//! The calls that make a trace.
+//! The calls that make a trace. Each looks into the table at its end, which tells that the trace is well-formed.
 ghost use Rattle.std.specs.Prelude.{◌≡◌, ◌≤◌, cond, Ok, Err};
 ghost use Rattle.trace.specs.Operations.{Within, within, number, kind_number, is_position, source_fits};
 ghost use Rattle.trace.specs.Refusals.{answered};
 ghost use Rattle.trace.specs.Tables.{Kept};
-ghost use Rattle.trace.specs.Traces.{processor_count, lane_at, empty_trace};
+ghost use Rattle.trace.specs.Traces.{processor_count, lane_at, empty_trace, WellFormed};
 ghost use Rattle.trace.specs.Calls.{size_answer, size_after, record_answer, record_after, strike_answer, strike_after, with_lane};
 ghost use Rattle.trace.specs.declared.refusal.Refusal.TheVariants as refused;
 
@@ -14,7 +14,7 @@ use fixed_list::FixedList;
 
 // The number of the operation at a position of a processor.
 fn number_of(processor: u8, position: usize) -> u16
-    requires { position ≤ 65 }
+    requires { position ≤ 99 }
     ensures { result ≡ number processor position }
 {
     100 * u16::from(processor) + position as u16
@@ -23,7 +23,8 @@ fn number_of(processor: u8, position: usize) -> u16
 impl Table {
     /// Makes a fresh table: one processor, one variable and no operations.
     pub fn new() -> Table
-        ensures { result ≡ empty_trace 1 1 }
+        ensures value { result ≡ empty_trace 1 1 }
+        ensures formed { WellFormed result }
     {
         Table::empty(1, 1)
     }
@@ -44,8 +45,11 @@ impl Table {
     pub fn size(&mut self, processors: u8, variables: u8) -> (u8, u16)
         ensures answer { result ≡ size_answer self.old processors variables }
         ensures after { self.new ≡ size_after self.old processors variables }
+        ensures formed { WellFormed self.new }
     {
-        answer(self.resize(processors, variables))
+        let outcome = self.resize(processors, variables);
+        let _ = &self.total;
+        answer(outcome)
     }
 
     fn resize(&mut self, processors: u8, variables: u8) -> Result<u16, Refusal>
@@ -119,8 +123,11 @@ impl Table {
     ) -> (u8, u16)
         ensures answer { result ≡ record_answer self.old processor kind variable source }
         ensures after { self.new ≡ record_after self.old processor kind variable source value }
+        ensures formed { WellFormed self.new }
     {
-        answer(self.add(processor, kind, variable, source, value))
+        let outcome = self.add(processor, kind, variable, source, value);
+        let _ = &self.total;
+        answer(outcome)
     }
 
     fn add(
@@ -134,7 +141,9 @@ impl Table {
         ensures answer { answered result ≡ record_answer self.old processor kind variable source }
         ensures after { self.new ≡ record_after self.old processor kind variable source value }
     {
-        let mut lane = self.take_lane(processor)?;
+        if !self.has_processor(usize::from(processor)) {
+            return Err(Refusal::Processor);
+        }
         let kind = Kind::try_from(kind)?;
         if !(1..=self.variables).contains(&variable) {
             return Err(Refusal::Variable);
@@ -151,6 +160,7 @@ impl Table {
             source,
             value,
         };
+        let mut lane = self.take_lane(processor)?;
         let position = lane.len() + 1;
         let _ = lane.push(operation);
         self.put(processor, lane, self.total + 1);
@@ -161,8 +171,11 @@ impl Table {
     pub fn strike(&mut self, processor: u8) -> (u8, u16)
         ensures answer { result ≡ strike_answer self.old processor }
         ensures after { self.new ≡ strike_after self.old processor }
+        ensures formed { WellFormed self.new }
     {
-        answer(self.remove_last(processor))
+        let outcome = self.remove_last(processor);
+        let _ = &self.total;
+        answer(outcome)
     }
 
     fn remove_last(&mut self, processor: u8) -> Result<u16, Refusal>

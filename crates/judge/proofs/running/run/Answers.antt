@@ -32,5 +32,5 @@ returns g c =
     let rest : into_iter_items c.loop-call.call-iterator ≡ [] = nil_from_length _ (omega (arith, c.in-None.ensures.steps.0, c.loop-call.call-iterator.rest.ok.0)) in
     let becomes : into_iter_items c.into_iter-call-iterator.result ≡ calls = c.into_iter-call-iterator.ensures.into_iter_gives.0 in
     let all : c.loop-call.yielded ≡ calls = sym (append-nil c.loop-call.yielded) ∙ ap (λ l. c.loop-call.yielded ++ l) (sym rest) ∙ sym inv.0 ∙ becomes in
-    subst (λ x. Law (g.M.MemoryModel.meaning x) calls answers) (ap (λ j. j.model) c.new-judge.ensures)
+    subst (λ x. Law (g.M.MemoryModel.meaning x) calls answers) (ap (λ j. j.model) c.new-judge.ensures.value)
     (subst (λ l. Law m l answers) all (law_of m (g.M.MemoryModel.laws c.new-judge.result.model) c.loop-call.yielded answers inv.2.follows))

@@ -11,7 +11,7 @@ loop-rank-preserved c =
     let facts = c.of-ranks.ensures.facts in
     let n = c.loop-rank.rank in
     let j = number_at (numbers t) n in
-    let at : c.number.result ≡ j = c.number.ensures ∙ ap (λ xs. number_at xs n) list in
+    let at : c.number.result ≡ j = c.number.ensures.value ∙ ap (λ xs. number_at xs n) list in
     let ranked : MatchOption c.named.result (c.and_then-write.result ≡ None) (λ w. MatchOption c.and_then-write.result (Unlisted c.of-ranks.result w) (RankOf c.of-ranks.result w)) = search rules in
     let rank = named_rank t facts j c.named.result c.and_then-write.result (rw (← at) c.named.ensures) (rw (← list) ranked) in
     elim c.match-write.branch [

@@ -12,9 +12,9 @@ loop-number-preserved c =
     elim c.match-rank.branch [
       | in-Some w ↦
           tabled_more _ c.of-ranks.ensures.facts c.of-ranks.result c.of-ranks.ensures.value _ _ _ _ c.loop-number-test.true c.loop-number.invariant
-          w.union.result c.match-rank.seen w.in-Some.rank c.match-rank.rows w.in-Some.ensures w.union.ensures (λ k. ap (λ z. has z k) w.seen-is ∙ w.with-seen.ensures.holds k) w.rows-is
+          w.union.result c.match-rank.seen w.in-Some.rank c.match-rank.rows w.in-Some.ensures.place w.union.ensures (λ k. ap (λ z. has z k) w.seen-is ∙ w.with-seen.ensures.holds k) w.rows-is
       | in_default w ↦
-          tabled_skips _ c.of-ranks.ensures.facts c.of-ranks.result c.of-ranks.ensures.value _ _ _ _ c.loop-number-test.true c.loop-number.invariant c.match-rank.rows c.match-rank.seen w.in_default.ensures w.rows-is w.seen-is
+          tabled_skips _ c.of-ranks.ensures.facts c.of-ranks.result c.of-ranks.ensures.value _ _ _ _ c.loop-number-test.true c.loop-number.invariant c.match-rank.rows c.match-rank.seen w.in_default.ensures.place w.rows-is w.seen-is
     ]
 
 pub returns : goal.returns

@@ -11,7 +11,7 @@ loop-place-init c = each_none _
 pub returns-then-operation-last_write : goal.returns-then-operation-last_write
 returns-then-operation-last_write c = (
   λ b. absurd (false≢true b),
-  λ e. absurd (seeing_fails _ c.args.list.now _ c.loop-place-test.true c.in-Some.operation c.last_write.result (sym c.operation.ensures ∙ c.in-Some.is) (kind_is_read _ c.if-eq.ensures) c.last_write.ensures c.if-operation-last_write.true e),
+  λ e. absurd (seeing_fails _ c.args.list.now _ c.loop-place-test.true c.in-Some.operation c.last_write.result (sym c.operation.ensures.value ∙ c.in-Some.is) (kind_is_read _ c.if-eq.ensures) c.last_write.ensures c.if-operation-last_write.true e),
 )
 
 pub loop-place-preserved : goal.loop-place-preserved
@@ -19,8 +19,8 @@ loop-place-preserved c =
     elim c.match-operation.branch [
       | in-Some+else-eq w ↦
           elim w.else-eq.branch [
-            | else-eq-via-then-eq+else-operation-last_write v ↦ seeing_read _ c.args.list.now _ c.loop-place-test.true c.loop-place.invariant w.in-Some.operation v.last_write.result (sym c.operation.ensures ∙ w.in-Some.is) v.last_write.ensures v.if-operation-last_write.false
-            | else-eq-via-else-eq v ↦ seeing_write _ c.args.list.now _ c.loop-place-test.true c.loop-place.invariant w.in-Some.operation (sym c.operation.ensures ∙ w.in-Some.is) (kind_is_not_read _ v.if-eq.ensures)
+            | else-eq-via-then-eq+else-operation-last_write v ↦ seeing_read _ c.args.list.now _ c.loop-place-test.true c.loop-place.invariant w.in-Some.operation v.last_write.result (sym c.operation.ensures.value ∙ w.in-Some.is) v.last_write.ensures v.if-operation-last_write.false
+            | else-eq-via-else-eq v ↦ seeing_write _ c.args.list.now _ c.loop-place-test.true c.loop-place.invariant w.in-Some.operation (sym c.operation.ensures.value ∙ w.in-Some.is) (kind_is_not_read _ v.if-eq.ensures)
           ]
-      | in_default w ↦ seeing_nothing _ c.args.list.now _ c.loop-place-test.true c.loop-place.invariant (sym c.operation.ensures ∙ w.in_default.is)
+      | in_default w ↦ seeing_nothing _ c.args.list.now _ c.loop-place-test.true c.loop-place.invariant (sym c.operation.ensures.value ∙ w.in_default.is)
     ]

@@ -15,7 +15,7 @@ push_section-requires c =
     let room = putting_room section_bytes t.lanes _ _ _ c.loop-processor.invariant [] here in
     let formed = c.processors.ensures.formed in
     let started = put_in 522 c.new-file.result _ _ (omega (arith, ap length c.new-file.ensures)) c.extend_from_slice.ensures.after ∙ ap (λ l. l ++ c.processors.result ∷ c.variables.result ∷ []) c.new-file.ensures in
-    subst (λ l. length c.loop-processor.file + length (section_bytes l) ≤ 522) (sym (c.lane.ensures ∙ lane_at_place t k low))
+    subst (λ l. length c.loop-processor.file + length (section_bytes l) ≤ 522) (sym (c.lane.ensures.value ∙ lane_at_place t k low))
     (omega (arith, room, ap length started, file_length t, formed.processors.1, formed.few))
 
 pub loop-processor-preserved : goal.loop-processor-preserved
@@ -27,7 +27,7 @@ loop-processor-preserved c =
     let next : k - 1 + 1 ≡ k + 1 - 1 = omega (arith, low) in
     subst (λ i. Putting section_bytes t.lanes c.extend_from_slice.new.self i c.push_section.new.file) next
     (putting_again section_bytes t.lanes _ _ _ c.loop-processor.invariant [] here _
-    (c.push_section.ensures ∙ ap (λ l. c.loop-processor.file ++ section_bytes l) (c.lane.ensures ∙ lane_at_place t k low)))
+    (c.push_section.ensures ∙ ap (λ l. c.loop-processor.file ++ section_bytes l) (c.lane.ensures.value ∙ lane_at_place t k low)))
 
 pub returns-2 : goal.returns-2
 returns-2 c =
@@ -38,10 +38,10 @@ returns-2 c =
     let last : processor_count t ≤ k - 1 + 1 = omega (arith, c.processors-processor-end.ensures.value) in
     let started = put_in 522 c.new-file.result _ _ (omega (arith, ap length c.new-file.ensures)) c.extend_from_slice.ensures.after ∙ ap (λ l. l ++ c.processors.result ∷ c.variables.result ∷ []) c.new-file.ensures in
     let all = putting_again section_bytes t.lanes _ _ _ c.loop-processor.invariant [] here _
-    (c.push_section.ensures ∙ ap (λ l. c.loop-processor.file ++ section_bytes l) (c.lane.ensures ∙ lane_at_place t k low)) in
+    (c.push_section.ensures ∙ ap (λ l. c.loop-processor.file ++ section_bytes l) (c.lane.ensures.value ∙ lane_at_place t k low)) in
     record {
       value = putting_ends section_bytes t.lanes _ _ _ all last
           ∙ ap (λ l. l ++ flat_map section_bytes t.lanes) started
-          ∙ (λ i. c.processors.ensures.value i ∷ c.variables.ensures i ∷ flat_map section_bytes t.lanes);
+          ∙ (λ i. c.processors.ensures.value i ∷ c.variables.ensures.value i ∷ flat_map section_bytes t.lanes);
       formed = c.processors.ensures.formed;
     }

@@ -32,7 +32,7 @@ returns-clause-played g c =
           plays_view m s u given left r w.in-View.view slots (with_items slots after) w.in-View.is w.call-is (ap (λ j. j.state) w.self-is)
           (subst (λ x. Showing s.standing w.in-View.view (vec_items slots) x (vec_items (with_items slots after))) (sym w.refusal-is)
           (subst (Showing s.standing w.in-View.view (vec_items slots) w.view.result) (sym items)
-          (subst (λ l. Showing s.standing w.in-View.view l w.view.result after) w.as_mut_slice.ensures.value w.view.ensures)))
+          (subst (λ l. Showing s.standing w.in-View.view l w.view.result after) w.as_mut_slice.ensures.value w.view.ensures.shown)))
       | in-Inspect w ↦
           plays_inspect m s u given left r w.in-Inspect.numbers w.in-Inspect.is w.call-is (ap (λ j. j.state) w.self-is)
           (subst (Inspected m s.trace (vec_items w.in-Inspect.numbers)) (sym w.refusal-is)

@@ -14,4 +14,4 @@ returns g c =
     let laws = write_into_laws m (g.M.MemoryModel.laws c.args.self.now.below) in
     let second = c.args.second in
     let found : MatchOption c.rank.result (c.is_some_and.result ≡ false) (λ r. (row : OpSet) × Row (λ i. (write_into m).before t i second) (numbers t) row × (c.is_some_and.result ≡ has row r)) = search rules in
-    by_rank t c.of.ensures.facts _ c.of.ensures.value c.args.first (λ i. (write_into m).before t i second) (λ b. (laws.ordered t c.args.first second b).0) _ _ c.rank.ensures found
+    by_rank t c.of.ensures.facts _ c.of.ensures.value c.args.first (λ i. (write_into m).before t i second) (λ b. (laws.ordered t c.args.first second b).0) _ _ c.rank.ensures.place found

@@ -19,7 +19,7 @@ loop-rank-preserved c =
     let n = c.loop-rank.rank in
     let listed = c.as_slice-number-items.ensures.value in
     let below : n < length (numbers t) = omega (arith, c.loop-rank-test.true, ap length listed, ap length c.requires.ranks) in
-    let found = c.operation.ensures ∙ ap (λ list. operation_at t (number_at list n)) listed in
+    let found = c.operation.ensures.value ∙ ap (λ list. operation_at t (number_at list n)) listed in
     elim c.match-operation.branch [
       | in-Some w ↦
           subst (Listing t _ (n + 1)) (sym w.operations-is)
