@@ -1,6 +1,7 @@
 //! Whether the list of a view keeps each of the clauses.
 ghost use Rattle.std.specs.Prelude.{◌≡◌, ℕ, ◌<◌, true, Decides};
 ghost use Rattle.opset.specs.Sets.{has};
+ghost use Rattle.trace.specs.Traces.{WellFormed};
 ghost use Rattle.orders.specs.Tables.{EarlierRows};
 ghost use Rattle.orders.specs.Orders.{WriteTo, LastWrite, Exact, Ordered, Seeing, Agrees};
 
@@ -36,8 +37,10 @@ fn is_write_to(table: &Table, variable: u8, number: u16) -> bool
 
 /// Gives the last write to a variable that stands in a list; 0 where there is none.
 pub fn last_write(table: &Table, variable: u8, list: &[u16]) -> u16
-    ensures { LastWrite table.now variable list.now result }
+    ensures last { LastWrite table.now variable list.now result }
+    ensures formed { WellFormed table.now }
 {
+    let _ = table.total();
     let mut last = 0;
     for number in list {
         if is_write_to(table, variable, *number) {
@@ -49,8 +52,10 @@ pub fn last_write(table: &Table, variable: u8, list: &[u16]) -> u16
 
 /// Tells whether each read of a list sees its source: the last write to its variable before it.
 pub fn is_seeing(table: &Table, list: &[u16]) -> bool
-    ensures { Decides result (Seeing table.now list.now) }
+    ensures answer { Decides result (Seeing table.now list.now) }
+    ensures formed { WellFormed table.now }
 {
+    let _ = table.total();
     for (place, number) in list.iter().enumerate() {
         if let Some(operation) = table.operation(*number) {
             if operation.kind == Kind::Read
@@ -82,7 +87,8 @@ fn earlier_rows(table: &Table, list: &[u16]) -> [OpSet; 64]
 impl<'a, M: MemoryModel> Clauses<'a, M> {
     /// Tells whether a list has exactly the operations that a view holds, each once.
     pub fn is_exact(&self, view: u8, list: &[u16]) -> bool
-        ensures { Decides result (Exact (M.meaning self.now.model.now) self.now.table.now view list.now) }
+        ensures answer { Decides result (Exact (M.meaning self.now.model.now) self.now.table.now view list.now) }
+        ensures formed { WellFormed self.now.table.now }
     {
         let ranks = Ranks::of(self.table);
         let held = self.model.held(self.table, view);
@@ -101,7 +107,8 @@ impl<'a, M: MemoryModel> Clauses<'a, M> {
 
     /// Tells whether all that a view holds, and is required before an operation of a list, stands earlier in the list.
     pub fn is_ordered(&self, view: u8, list: &[u16]) -> bool
-        ensures { Decides result (Ordered (M.meaning self.now.model.now) self.now.table.now view list.now) }
+        ensures answer { Decides result (Ordered (M.meaning self.now.model.now) self.now.table.now view list.now) }
+        ensures formed { WellFormed self.now.table.now }
     {
         let ranks = Ranks::of(self.table);
         let held = self.model.held(self.table, view);
@@ -120,7 +127,8 @@ impl<'a, M: MemoryModel> Clauses<'a, M> {
 
     /// Tells whether writes required alike, which a view holds and another list has in some order, stand in the list in that order.
     pub fn is_agreeing(&self, view: u8, other: &[u16], list: &[u16]) -> bool
-        ensures { Decides result (Agrees (M.meaning self.now.model.now) self.now.table.now view other.now list.now) }
+        ensures answer { Decides result (Agrees (M.meaning self.now.model.now) self.now.table.now view other.now list.now) }
+        ensures formed { WellFormed self.now.table.now }
     {
         let ranks = Ranks::of(self.table);
         let held = self.model.held(self.table, view);

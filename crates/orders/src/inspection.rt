@@ -1,6 +1,6 @@
 //! Inspecting orders that are put forward in writing.
 ghost use Rattle.std.specs.Prelude.{◌≡◌, ℕ, suc, ◌+◌, ◌*◌, ◌<◌, ◌≤◌, List, ◌++◌, length, Decides, MatchOption, ◌==◌};
-ghost use Rattle.trace.specs.Traces.{processor_count, Complete};
+ghost use Rattle.trace.specs.Traces.{processor_count, Complete, WellFormed};
 ghost use Rattle.orders.specs.Findings.{clause_number, found_number};
 ghost use Rattle.orders.specs.Orders.{Explains};
 ghost use Rattle.orders.specs.Inspecting.{written, EndsEarly, Parts, Fails, Passing, PassingAll, AgreesWithEarlier, DisagreesWith, AgreeBefore, Disagrees, Failure, Passes, Finds, Inspected};
@@ -144,6 +144,7 @@ pub fn inspect<M: MemoryModel>(model: &M, table: &Table, numbers: &[u16]) -> (u8
     ensures one { (other : ℕ × ℕ) → Inspected (M.meaning model.now) table.now numbers.now other → other ≡ result }
     ensures passes { Complete table.now → Decides (result.1 == 0) (Passes (M.meaning model.now) table.now numbers.now) }
     ensures fails { Complete table.now → (clause view : ℕ) → 1 ≤ view → view < 100 → result.1 ≡ 100 * clause + view → Failure (M.meaning model.now) table.now numbers.now clause view }
+    ensures formed { WellFormed table.now }
 {
     match table.completeness() {
         (0, _) => (0, Clauses { model, table }.value(numbers)),

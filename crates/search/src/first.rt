@@ -1,5 +1,6 @@
 //! The first orders that meet a model on a trace.
 ghost use Rattle.std.specs.Option.{MatchOption};
+ghost use Rattle.trace.specs.Traces.{WellFormed};
 ghost use Rattle.orders.specs.Orders.{Legal, First};
 ghost use Rattle.search.specs.Steps.{NoFill};
 ghost use Rattle.search.specs.Found.{FirstFound};
@@ -21,7 +22,8 @@ impl Tables {
 
 /// Finds the first of all orders that meet a model on a trace; nothing where there are none.
 pub fn first_orders<M: MemoryModel>(model: &M, table: &Table) -> Option<Orders>
-    ensures { MatchOption result (Legal (M.meaning model.now) table.now → ⊥) (λ o. First (M.meaning model.now) table.now o) }
+    ensures first { MatchOption result (Legal (M.meaning model.now) table.now → ⊥) (λ o. First (M.meaning model.now) table.now o) }
+    ensures formed { WellFormed table.now }
 {
     Tables::of(model, table).first_orders()
 }

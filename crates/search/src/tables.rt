@@ -21,6 +21,7 @@ pub struct Tables {
     pub(crate) before: [OpSet; 64],
     pub(crate) alike: [OpSet; 64],
     pub(crate) operations: [Operation; 64],
+    ghost listed: { length ranks ≤ 64 },
     ghost few: { length held ≤ 16 },
     ghost within: { (k i : ℕ) → has (row_at held k) i ≡ true → i < 64 },
     ghost sized: { (k : ℕ) → size (row_at held k) ≤ 64 },

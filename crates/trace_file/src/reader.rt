@@ -1,5 +1,5 @@
-//! The reader: from bytes to a table, up to the first fault.
-ghost use Rattle.std.specs.Prelude.{◌≡◌, ◌+◌, ◌*◌, ◌<◌};
+//! The reader: from bytes to a table, up to the first fault. A table is asked for its total, which tells that its trace is well-formed.
+ghost use Rattle.std.specs.Prelude.{◌≡◌, ◌+◌, ◌*◌, ◌<◌, IfOk};
 ghost use Rattle.trace.specs.Operations.{Within};
 ghost use Rattle.trace.specs.Traces.{processor_count, WellFormed};
 ghost use Rattle.trace_file.specs.Outcomes.{RecordRead, SectionRead, SizeRead, FileRead, placed};
@@ -72,7 +72,8 @@ fn read_size(bytes: &[u8]) -> Result<(u8, u8), FileFault>
 
 /// Reads a file: the table of its trace, or its first fault.
 pub fn read(bytes: &[u8]) -> Result<Table, FileFault>
-    ensures { FileRead bytes.now result }
+    ensures file { FileRead bytes.now result }
+    ensures formed { IfOk result (λ table. WellFormed table) }
 {
     let (processors, variables) = read_size(bytes)?;
     let mut table = Table::new();
@@ -86,6 +87,7 @@ pub fn read(bytes: &[u8]) -> Result<Table, FileFault>
     if start < bytes.len() {
         return Err(FileFault::LeftOver);
     }
+    let _ = table.total();
     Ok(table)
 }
 

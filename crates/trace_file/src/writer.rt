@@ -1,5 +1,5 @@
 //! The writer: from a table to the bytes of its file.
-ghost use Rattle.std.specs.Prelude.{◌≡◌, ◌+◌, ◌*◌, ◌++◌, ◌≤◌, length};
+ghost use Rattle.std.specs.Prelude.{◌≡◌, ◌+◌, ◌*◌, ◌++◌, ◌≤◌, [], length};
 ghost use Rattle.trace.specs.Traces.{processor_count, operation_count, WellFormed};
 ghost use Rattle.trace_file.specs.Files.{record_bytes, section_bytes, file_of};
 ghost use Rattle.trace_file.specs.Reading.{good, read_file};
@@ -40,17 +40,16 @@ fn push_section(file: &mut File, lane: &[Operation])
     }
 }
 
-// The file of a table's trace, which is well-formed.
-fn file_of(table: &Table) -> File
-    ensures value { result ≡ file_of table.now }
+// Puts the file of a table's trace, which is well-formed, into an empty one.
+fn push_file(file: &mut File, table: &Table)
+    requires { file.old ≡ [] }
+    ensures value { file.new ≡ file_of table.now }
     ensures formed { WellFormed table.now }
 {
-    let mut file = FixedList::new();
     let _ = file.extend_from_slice(&[table.processors(), table.variables()]);
     for processor in 1..=table.processors() {
-        push_section(&mut file, table.lane(processor));
+        push_section(file, table.lane(processor));
     }
-    file
 }
 
 /// Writes the file of a table's trace from the first byte on, and answers its length; 14 where the bytes are too few.
@@ -60,11 +59,14 @@ pub fn save(table: &Table, bytes: &mut [u8]) -> (u8, u16)
     ensures after { bytes.new ≡ save_after table.now bytes.old }
     ensures size { length (file_of table.now) ≡ 2 + processor_count table.now + 8 * operation_count table.now }
     ensures back { read_file (file_of table.now) ≡ good table.now }
+    ensures formed { WellFormed table.now }
 {
     let size = 2 + usize::from(table.processors()) + 8 * table.total();
     if bytes.len() < size {
         return (14, 0);
     }
-    bytes[..size].copy_from_slice(file_of(table).as_slice());
+    let mut file = FixedList::new();
+    push_file(&mut file, table);
+    bytes[..size].copy_from_slice(file.as_slice());
     (0, size as u16)
 }

@@ -1,7 +1,6 @@
 //! Playing a call that is given as a value.
 ghost use Rattle.std.specs.Prelude.{◌≡◌};
-ghost use Rattle.trace.specs.Traces.{WellFormed};
-ghost use Rattle.judge.specs.Seen.{moved};
+ghost use Rattle.judge.specs.Seen.{Sound, moved};
 ghost use Rattle.judge.specs.States.{Plays};
 
 use crate::calls::{Call, Played};
@@ -13,7 +12,7 @@ impl<M: MemoryModel> Judge<M> {
     pub fn play(&mut self, mut call: Call) -> Played
         ensures played { Plays (M.MemoryModel.meaning self.old.model) self.old.state call result self.new.state }
         ensures model { self.new ≡ moved self.old self.new.state }
-        ensures formed { WellFormed self.new.state.trace }
+        ensures sound { Sound self.new.state }
     {
         let (refusal, value) = match &mut call {
             Call::Change(change) => self.change(change),

@@ -1,5 +1,6 @@
 //! Making the list of a trace, and looking things up in it.
 ghost use Rattle.std.specs.Prelude.{◌≡◌, ◌≤◌, length, MatchOption};
+ghost use Rattle.trace.specs.Traces.{WellFormed};
 ghost use Rattle.ranks.specs.Numbers.{numbers, number_at, Numbers, RankOf, Unlisted};
 
 use crate::listing::Ranks;
@@ -11,6 +12,7 @@ impl Ranks {
     pub fn of(table: &Table) -> Ranks
         ensures value { result ≡ numbers table.now }
         ensures facts { Numbers table.now }
+        ensures formed { WellFormed table.now }
     {
         let mut numbers = FixedList::new();
         for processor in 1..table.processors() + 1 {

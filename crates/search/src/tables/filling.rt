@@ -46,6 +46,7 @@ impl Tables {
     pub fn of<M: MemoryModel>(model: &M, table: &Table) -> Tables
         ensures tabled { Tabled (M.meaning model.now) table.now result }
         ensures facts { Numbers table.now }
+        ensures formed { WellFormed table.now }
     {
         let ranks = Ranks::of(table);
         let views = model.views(table.processors(), table.variables());

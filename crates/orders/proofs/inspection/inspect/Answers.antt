@@ -15,6 +15,7 @@ returns-in_default g c =
       one = λ other i. one_answer m laws t formed numbers other _ i is;
       passes = answer_passes m laws t formed numbers _ is;
       fails = answer_fails m laws t formed numbers _ is;
+      formed = formed;
     }
 
 pub returns-in-0-default : goal.returns-in-0-default
@@ -30,4 +31,5 @@ returns-in-0-default g c =
       one = λ other i. one_answer m laws t formed numbers other _ i is;
       passes = answer_passes m laws t formed numbers _ is;
       fails = answer_fails m laws t formed numbers _ is;
+      formed = formed;
     }

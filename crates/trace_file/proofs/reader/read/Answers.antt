@@ -12,18 +12,18 @@ use Rattle.trace_file.proofs.Steps.{Sectioning, placed_err, section_next, sectio
 use Rattle.trace_file.proofs.reader.read.Goals as goal
 use Rattle.trace_file.proofs.reader.read.Goals.{else-loop-section-test, then-loop-section-test+in_ok-start+else-section-processors}
 
-pub returns-in_err-processors : goal.returns-in_err-processors
-returns-in_err-processors c =
+pub returns-in_err-processors-clause-file : goal.returns-in_err-processors-clause-file
+returns-in_err-processors-clause-file c =
     let e : reading_of c.from_residual.result ≡ read_file c.args.bytes.now = search rules in
     file_read c.args.bytes.now _ (λ k. (c.type_inv.bytes k).fits) e
 
-pub returns-in_default : goal.returns-in_default
-returns-in_default c =
+pub returns-in_default-clause-file : goal.returns-in_default-clause-file
+returns-in_default-clause-file c =
     let e : reading_of (Err Size) ≡ read_file c.args.bytes.now = search rules in
     file_read c.args.bytes.now (Err Size) (λ k. (c.type_inv.bytes k).fits) e
 
-pub returns-in_err-start : goal.returns-in_err-start
-returns-in_err-start c =
+pub returns-in_err-start-clause-file : goal.returns-in_err-start-clause-file
+returns-in_err-start-clause-file c =
     let b = c.args.bytes.now in
     let s = c.loop-section.section in
     let before : s - 1 + 1 ≡ s = omega (arith, c.loop-section.auto.section) in
@@ -48,8 +48,8 @@ loop-section-preserved c =
     subst (λ k. Sectioning c.args.bytes.now c.in_ok-processors.processors c.read_section.new.table k (c.loop-section.start + c.in_ok-start.field-0)) again
     (next_one _ _ _ _ s _ _ _ c.loop-section.invariant c.loop-section.auto.section c.loop-section-test.true c.in_ok-start.ensures c.read_section.ensures)
 
-pub returns-then-start-bytes : goal.returns-then-start-bytes
-returns-then-start-bytes c =
+pub returns-then-start-bytes-clause-file : goal.returns-then-start-bytes-clause-file
+returns-then-start-bytes-clause-file c =
     let b = c.args.bytes.now in
     let p = c.in_ok-processors.processors in
     let s = c.loop-section.section in
@@ -67,8 +67,8 @@ returns-then-start-bytes c =
     in
     file_read b (Err LeftOver) (λ k. (c.type_inv.bytes k).fits) (sym (file_over _ _ _ _ _ ended refl c.if-start-bytes.true))
 
-pub returns : goal.returns
-returns c =
+pub returns-clause-file : goal.returns-clause-file
+returns-clause-file c =
     let b = c.args.bytes.now in
     let p = c.in_ok-processors.processors in
     let s = c.loop-section.section in

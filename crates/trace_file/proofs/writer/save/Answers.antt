@@ -10,7 +10,7 @@ returns-then-bytes-size-clause-back c = read_back c.args.table.now c.processors.
 pub copy_from_slice-requires : goal.copy_from_slice-requires
 copy_from_slice-requires c =
     length-take-le (2 + c.from.result + 8 * c.total.result) c.args.bytes.now c.if-bytes-size.false
-    ∙ omega (arith, ap length (c.as_slice.ensures.value ∙ c.file_of.ensures.value), file_length c.args.table.now, c.from.ensures, c.processors.ensures.value, c.total.ensures.value)
+    ∙ omega (arith, ap length (c.as_slice.ensures.value ∙ c.push_file.ensures.value), file_length c.args.table.now, c.from.ensures, c.processors.ensures.value, c.total.ensures.value)
 
 pub returns-clause-back : goal.returns-clause-back
 returns-clause-back c = read_back c.args.table.now c.processors.ensures.formed

@@ -16,6 +16,6 @@ returns-clause-verdict g c =
     let found = c.first_orders-self-inside in
     let s : State = record { trace = c.self.inside.table; standing = c.self.inside.first } in
     elim c.match-self.branch [
-      | in-Some w ↦ rw (← c.self.view_is, w.result-is) (judging_legal m s complete.result complete.ensures.complete c.if-refusal-ne0.false found.result found.ensures w.in-Some.field-0 w.in-Some.is)
-      | in-None w ↦ rw (← c.self.view_is, w.result-is) (judging_illegal m s complete.result complete.ensures.complete c.if-refusal-ne0.false found.result found.ensures w.in-None.is)
+      | in-Some w ↦ rw (← c.self.view_is, w.result-is) (judging_legal m s complete.result complete.ensures.complete c.if-refusal-ne0.false found.result found.ensures.first w.in-Some.field-0 w.in-Some.is)
+      | in-None w ↦ rw (← c.self.view_is, w.result-is) (judging_illegal m s complete.result complete.ensures.complete c.if-refusal-ne0.false found.result found.ensures.first w.in-None.is)
     ]

@@ -4,8 +4,8 @@ use Rattle.orders.proofs.Agreeing.{agrees_all, agrees_unheld, agrees_again, agre
 use Rattle.orders.proofs.clauses.Clauses.is_agreeing.Goals as goal
 use Rattle.orders.proofs.clauses.Clauses.is_agreeing.Goals.{else-contains-via-then-contains+else-not-has_all, else-contains-via-else-contains}
 
-pub returns-then-not-has_all : goal.returns-then-not-has_all
-returns-then-not-has_all g c = (
+pub returns-then-not-has_all-clause-answer : goal.returns-then-not-has_all-clause-answer
+returns-then-not-has_all-clause-answer g c = (
   λ b. absurd (false≢true b),
   λ e. absurd (
       agrees_fails _ (g.M.MemoryModel.laws c.args.self.now.model.now) _ c.of-ranks.ensures.facts c.of-ranks.result c.of-ranks.ensures.value _ c.len-rank-end.ensures.value _ _ _ _ c.loop-rank-test.true c.loop-rank.invariant
@@ -26,5 +26,5 @@ loop-rank-preserved g c =
           c.held-held.result c.held-held.ensures (sym c.contains.ensures.answer ∙ w.if-contains.false)
     ]
 
-pub returns : goal.returns
-returns g c = (λ _. agrees_all _ (g.M.MemoryModel.laws c.args.self.now.model.now) _ c.of-ranks.ensures.facts c.of-ranks.result c.of-ranks.ensures.value _ c.len-rank-end.ensures.value _ _ _ _ c.loop-rank-test.false c.loop-rank.invariant, λ _. refl)
+pub returns-clause-answer : goal.returns-clause-answer
+returns-clause-answer g c = (λ _. agrees_all _ (g.M.MemoryModel.laws c.args.self.now.model.now) _ c.of-ranks.ensures.facts c.of-ranks.result c.of-ranks.ensures.value _ c.len-rank-end.ensures.value _ _ _ _ c.loop-rank-test.false c.loop-rank.invariant, λ _. refl)

@@ -6,8 +6,8 @@ use Rattle.orders.proofs.Orderly.{ordered_skips, ordered_fails, ordered_again}
 use Rattle.orders.proofs.clauses.Clauses.is_ordered.Goals as goal
 use Rattle.orders.proofs.clauses.Clauses.is_ordered.Goals.{in-Some+else-not-has_all, in_default}
 
-pub returns-then-not-has_all : goal.returns-then-not-has_all
-returns-then-not-has_all g c = (
+pub returns-then-not-has_all-clause-answer : goal.returns-then-not-has_all-clause-answer
+returns-then-not-has_all-clause-answer g c = (
   λ b. absurd (false≢true b),
   λ e. absurd (
       ordered_fails _ (g.M.MemoryModel.laws c.args.self.now.model.now) _ c.of-ranks.ensures.facts c.of-ranks.result c.of-ranks.ensures.value _ _ _ _ c.loop-number-test.true c.loop-number.invariant

@@ -4,7 +4,7 @@ use Rattle.trace.specs.Traces.{processor_count}
 use Rattle.trace.proofs.Lanes.{lane_at_place}
 use Rattle.trace_file.specs.Files.{section_bytes}
 use Rattle.trace_file.proofs.Lengths.{Putting, file_length, putting_room, putting_again, putting_ends, put_in}
-use Rattle.trace_file.proofs.writer.file_of.Goals as goal
+use Rattle.trace_file.proofs.writer.push_file.Goals as goal
 
 pub push_section-requires : goal.push_section-requires
 push_section-requires c =
@@ -14,7 +14,7 @@ push_section-requires c =
     let here : k - 1 < processor_count t = omega (arith, low, c.loop-processor-test.true, c.processors-processor-end.ensures.value) in
     let room = putting_room section_bytes t.lanes _ _ _ c.loop-processor.invariant [] here in
     let formed = c.processors.ensures.formed in
-    let started = put_in 522 c.new-file.result _ _ (omega (arith, ap length c.new-file.ensures)) c.extend_from_slice.ensures.after ∙ ap (λ l. l ++ c.processors.result ∷ c.variables.result ∷ []) c.new-file.ensures in
+    let started = put_in 522 c.args.file.now _ _ (omega (arith, ap length c.requires)) c.extend_from_slice.ensures.after ∙ ap (λ l. l ++ c.processors.result ∷ c.variables.result ∷ []) c.requires in
     subst (λ l. length c.loop-processor.file + length (section_bytes l) ≤ 522) (sym (c.lane.ensures.value ∙ lane_at_place t k low))
     (omega (arith, room, ap length started, file_length t, formed.processors.1, formed.few))
 
@@ -36,7 +36,7 @@ returns-2 c =
     let low = c.loop-processor.auto.processor in
     let here : k - 1 < processor_count t = omega (arith, low, c.loop-processor-test.true, c.processors-processor-end.ensures.value) in
     let last : processor_count t ≤ k - 1 + 1 = omega (arith, c.processors-processor-end.ensures.value) in
-    let started = put_in 522 c.new-file.result _ _ (omega (arith, ap length c.new-file.ensures)) c.extend_from_slice.ensures.after ∙ ap (λ l. l ++ c.processors.result ∷ c.variables.result ∷ []) c.new-file.ensures in
+    let started = put_in 522 c.args.file.now _ _ (omega (arith, ap length c.requires)) c.extend_from_slice.ensures.after ∙ ap (λ l. l ++ c.processors.result ∷ c.variables.result ∷ []) c.requires in
     let all = putting_again section_bytes t.lanes _ _ _ c.loop-processor.invariant [] here _
     (c.push_section.ensures ∙ ap (λ l. c.loop-processor.file ++ section_bytes l) (c.lane.ensures.value ∙ lane_at_place t k low)) in
     record {
