@@ -1,16 +1,17 @@
 -- A judge as contracts see it.
-use Rattle.std.specs.Prelude.{ℕ, ◌≤◌, List, length, Option, IfSome}
+use Rattle.std.specs.Prelude.{ℕ, List, Option, IfSome}
 use Rattle.trace.specs.Traces.{Trace, WellFormed}
+use Rattle.search.specs.Found.{Small}
 
 -- what calls alter: the trace, and the first orders while a legal verdict stands
 pub record State : Type 0 where
   pub trace : Trace
   pub standing : Option (List (List ℕ))
 
--- what every judge keeps: its trace is well-formed, and the orders of a standing verdict are at most 16 lists
+-- what every judge keeps: its trace is well-formed, and the orders of a standing verdict are at most 16 lists of at most 64 numbers
 pub record Sound (s : State) : Type 0 where
   pub formed : WellFormed s.trace
-  pub few : IfSome s.standing (λ orders. length orders ≤ 16)
+  pub small : IfSome s.standing Small
 
 -- a judge: its model, and its state
 pub record Seen (M : Type 0) : Type 0 where

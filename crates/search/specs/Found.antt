@@ -7,6 +7,11 @@ use Rattle.search.specs.declared.tables.Tables.{Tables}
 use Rattle.search.specs.declared.found.NotShown.{NotShown}
 use Rattle.search.specs.declared.found.NotShown.TheVariants.{NoView, FewSlots}
 
+-- orders as a search gives them: at most 16 lists of at most 64 numbers each
+pub record Small (orders : List (List ℕ)) : Type 0 where
+  pub few : length orders ≤ 16
+  pub short : (k : ℕ) → length (view_at orders k) ≤ 64
+
 -- the list is that of view k, and there is such a view
 pub record IsView (orders : List (List ℕ)) (k : ℕ) (list : List ℕ) : Type 0 where
   pub view : Within 1 (length orders) k

@@ -19,10 +19,13 @@ pub struct Orders {
 
 impl Model for Orders {
     ghost use Rattle.std.specs.Prelude.{ℕ, List};
+    ghost use Rattle.search.specs.Found.{Small};
 
     ghost Value = { List (List ℕ) };
 
     ghost view = { λ o. o.lists };
+
+    ghost invariant = { λ o. Small o.lists };
 
     ghost inverse = { λ lists. record { lists = lists } };
 }

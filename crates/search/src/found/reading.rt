@@ -1,7 +1,7 @@
 //! Reading the lists of orders.
 ghost use Rattle.std.specs.Prelude.{◌≤◌, length, IfOk, IfSome, MatchOption};
 ghost use Rattle.trace.specs.Operations.{Within};
-ghost use Rattle.search.specs.Found.{IsView, Shown};
+ghost use Rattle.search.specs.Found.{Small, IsView, Shown};
 
 use crate::found::{NotShown, Orders};
 
@@ -10,7 +10,7 @@ impl Orders {
     pub fn list(&self, view: u8) -> Option<&[u16]>
         ensures list { MatchOption result (Within 1 (length self.now) view → ⊥) (λ list. IsView self.now view list.now) }
         ensures bound { IfSome result (λ list. length list.now ≤ 64) }
-        ensures few { length self.now ≤ 16 }
+        ensures small { Small self.now }
     {
         let lists = self.lists.as_slice();
         let place = usize::from(view).checked_sub(1)?;
@@ -24,7 +24,7 @@ impl Orders {
     pub fn show(&self, view: u8, slots: &mut [u16]) -> Result<usize, NotShown>
         ensures shown { Shown self.now view slots.old slots.new result }
         ensures bound { IfOk result (λ n. n ≤ 64) }
-        ensures few { length self.now ≤ 16 }
+        ensures small { Small self.now }
     {
         let Some(list) = self.list(view) else {
             return Err(NotShown::NoView);
